@@ -1,0 +1,5 @@
+pub mod Rows
+pub mod Answers
+pub mod Lawful
+pub mod Excerpts
+pub mod Claims
