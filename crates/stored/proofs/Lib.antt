@@ -1,0 +1,4 @@
+pub mod Subtrees
+pub mod Kept
+pub mod Passed
+pub mod Questions

@@ -1,0 +1,3 @@
+pub mod Stored
+pub mod Fits
+pub mod Claims
