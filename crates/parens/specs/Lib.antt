@@ -1,0 +1,4 @@
+pub mod Trees
+pub mod Loading
+pub mod Search
+pub mod Places

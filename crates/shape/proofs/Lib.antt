@@ -1,0 +1,11 @@
+pub mod Lists
+pub mod Answers
+pub mod Nodes
+pub mod Skips
+pub mod Bytes
+pub mod Lawful
+pub mod Steps
+pub mod Low
+pub mod Packed
+pub mod Matching
+pub mod Laws
