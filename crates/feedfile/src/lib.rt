@@ -1,0 +1,6 @@
+// Feed files: the commands of a feed as bytes.
+pub mod command;
+mod decode;
+pub mod fault;
+mod laws;
+pub mod read;

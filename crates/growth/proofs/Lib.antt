@@ -1,0 +1,4 @@
+pub mod Room
+pub mod Growth
+pub mod Shown
+pub mod Histories
