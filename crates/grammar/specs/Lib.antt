@@ -1,0 +1,9 @@
+pub mod Bytes
+pub mod Tokens
+pub mod Syntax
+pub mod Grammar
+pub mod Machine
+pub mod Glances
+pub mod Spelling
+pub mod Descent
+pub mod Claims

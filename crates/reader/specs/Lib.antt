@@ -1,0 +1,4 @@
+pub mod Rows
+pub mod Heads
+pub mod Parsing
+pub mod Answers

@@ -1,0 +1,4 @@
+pub mod Shapes
+pub mod Slices
+pub mod Whole
+pub mod Writes
