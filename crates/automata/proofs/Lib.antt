@@ -1,0 +1,4 @@
+pub mod Low
+pub mod Solutions
+pub mod Falls
+pub mod Agrees

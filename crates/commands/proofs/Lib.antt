@@ -1,0 +1,10 @@
+pub mod Takes
+pub mod Spells
+pub mod Ends
+pub mod Grammar
+pub mod Values
+pub mod Encodes
+pub mod Steps
+pub mod Tallies
+pub mod Checks
+pub mod Denotes

@@ -1,0 +1,10 @@
+pub mod Bytes
+pub mod Commands
+pub mod Stack
+pub mod Deciding
+pub mod Decoded
+pub mod Encoded
+pub mod Rules
+pub mod Checked
+pub mod Begin
+pub mod Denotes
