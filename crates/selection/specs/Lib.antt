@@ -1,0 +1,4 @@
+pub mod Selects
+pub mod Translate
+pub mod Limits
+pub mod Claims

@@ -1,0 +1,4 @@
+pub mod Translation
+pub mod Table
+pub mod Written
+pub mod Claims
