@@ -1,0 +1,5 @@
+pub mod Marks
+pub mod Stages
+pub mod Same
+pub mod Lists
+pub mod Bits
