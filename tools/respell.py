@@ -31,8 +31,8 @@ OTHERWISE = {
     "preds-parts": "preds_parts_lem",
     "preds-path": "preds_path_lem",
 }
-# Old names that stay: lemmas whose dash joins the names of two functions, of which one is the library's.
-STAY = {"bit-and", "bit-or"}
+# Old names that stay: a dash joins the names of two functions, of which one is the library's.
+STAY = {"append-nil", "bit-and", "bit-or"}
 
 
 def files(root, *endings):

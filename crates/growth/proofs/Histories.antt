@@ -1,5 +1,5 @@
 -- Sequences of commands: the rows that a feed then holds, its names, and what its tree shows.
-use Rattle.std.proofs.Common.{◌≡◌, ℕ, zero, suc, ◌+◌, ◌<◌, ◌≤◌, Bool, true, false, List, [], ◌∷◌, ◌++◌, length, get_or, take, set, Ok, Err, sym, refl, ap, ◌∙◌, subst, ⊎_elim, append_assoc, append_nil, arith, length-set}
+use Rattle.std.proofs.Common.{◌≡◌, ℕ, zero, suc, ◌+◌, ◌<◌, ◌≤◌, Bool, true, false, List, [], ◌∷◌, ◌++◌, length, get_or, take, set, Ok, Err, sym, refl, ap, ◌∙◌, subst, ⊎_elim, append_assoc, append-nil, arith, length-set}
 use Rattle.std.specs.Str.{bytes_eq}
 use Rattle.std.proofs.lemmas.Bool.Decides.{nat_tests}
 use Rattle.std.proofs.lemmas.Slice.Eq.{bytes_eq-Decides}
@@ -19,7 +19,7 @@ use Rattle.growth.proofs.Growth.{begun_holds, opened_holds, texted_holds, shut_h
 use Rattle.growth.proofs.Shown.{sealed_shows}
 
 pub commands_hold : CommandsHold
-commands_hold [] f g ss us rs h e = subst (λ (l : List Row). Holds l g) (sym (append_nil rs)) (subst (λ (x : Fed). Holds rs x) e.0 h)
+commands_hold [] f g ss us rs h e = subst (λ (l : List Row). Holds l g) (sym (append-nil rs)) (subst (λ (x : Fed). Holds rs x) e.0 h)
 commands_hold (Open c ∷ cs) f g ss us rs h e =
     subst (λ (l : List Row). Holds l g) (append_assoc rs (row f.due c ∷ []) (rows_fed (f.due + 1) cs))
     (commands_hold cs (opened f c) g ss us (rs ++ row f.due c ∷ []) (opened_holds rs f c h e.0) e.1)

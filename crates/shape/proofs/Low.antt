@@ -1,7 +1,7 @@
 -- The least excess, found from part to part.
 use Rattle.std.proofs.Common.{◌≡◌, ℕ, zero, suc, ◌+◌, ◌-◌, ◌*◌, ◌/◌, ◌%◌, ◌^◌, ◌<◌, ◌≤◌, Bool, true, false, eqb, List, [], ◌∷◌, ◌++◌, length, get_or, take, drop, ℤ, pos, negsuc, ◌+ℤ◌, neg_ℤ, ◌≤ℤ◌, sym, refl, ap, ◌∙◌, subst, arith, length-drop, length-take, w8, w32, SFits, to_z, of_z}
 use lib.Signed.{mag}
-use Rattle.std.proofs.lemmas.List.{drop_more, append_nil, drop-drop, take_at, take-append-drop}
+use Rattle.std.proofs.lemmas.List.{drop_more, append-nil, drop-drop, take_at, take-append-drop}
 use Rattle.std.proofs.lemmas.Int.{ints, clamps}
 use Rattle.std.specs.Int.{int_min}
 use Rattle.excess.specs.Excess.{step, bits, total_bits, least_bits, total_of, least_of}
@@ -29,7 +29,7 @@ pub low_least : (c : List Bool) → 1 ≤ length c → low (pos 0) (pos 1) c ≡
 low_least [] h = absurd (omega arith)
 low_least (b ∷ c) h =
     let s = step_bound b in
-    ap (low (pos 0) (pos 1)) (sym (append_nil (b ∷ c))) ∙ low_skip (pos 0) (pos 1) b c [] ∙ omega (arith, ints, clamps)
+    ap (low (pos 0) (pos 1)) (sym (append-nil (b ∷ c))) ∙ low_skip (pos 0) (pos 1) b c [] ∙ omega (arith, ints, clamps)
 
 pub low_byte : (e l : ℤ) (b : ℕ) (t : List Bool) → low e l (bits 8 b ++ t) ≡ low (e +ℤ total_of b) (int_min l (e +ℤ least_of b)) t
 unfolding total_of least_of

@@ -7,12 +7,12 @@ use Rattle.grammar.specs.Spelling.{glyph, bytes, gap, write}
 use Rattle.spelling.specs.declared.writer.Writer.{Writer}
 use Rattle.spelling.specs.Writing.{gapped, total, Emits, Puts, gap_of}
 
-append_nil : {A : Type 0} (l : List A) → l ++ [] ≡ l
-append_nil [] = refl
-append_nil (x ∷ xs) = ap (λ z. x ∷ z) (append_nil xs)
+append-nil : {A : Type 0} (l : List A) → l ++ [] ≡ l
+append-nil [] = refl
+append-nil (x ∷ xs) = ap (λ z. x ∷ z) (append-nil xs)
 
 pub puts_nil : (v : Writer) → Puts [] v v
-puts_nil v = (λ h. (omega arith, sym (append_nil (take v.len v.bytes))), refl)
+puts_nil v = (λ h. (omega arith, sym (append-nil (take v.len v.bytes))), refl)
 
 pub puts_join : (cs bs : List ℕ) (v w x : Writer) → Puts cs v w → Puts bs w x → Puts (cs ++ bs) v x
 puts_join cs bs v w x f g = (
@@ -72,4 +72,4 @@ mutual
 pub all_written : (ts : List Token) (v w : Writer) → v.len ≡ 0 → v.word ≡ false → length (write ts) ≤ 512 → ((us : List Token) → length (total v ts) ≤ 512 → total v ts ≡ total w []) → take w.len w.bytes ≡ write ts
 all_written ts v w n k h e =
     let start : total v ts ≡ write ts = ap (λ i. take i v.bytes ++ gapped v.word ts) n ∙ ap (λ b. gapped b ts) k ∙ sym (gapped_write ts) in
-    sym (append_nil (take w.len w.bytes)) ∙ sym (e [] (subst (λ l. length l ≤ 512) (sym start) h)) ∙ start
+    sym (append-nil (take w.len w.bytes)) ∙ sym (e [] (subst (λ l. length l ≤ 512) (sym start) h)) ∙ start

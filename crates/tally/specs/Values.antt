@@ -1,6 +1,6 @@
 -- The values of the three kinds of tally.
 use Rattle.std.specs.Prelude.{◌≡◌, ℕ, ◌+◌, ◌<◌, ◌≤◌, min, Bool, true, false, ◌||◌, List, [], ◌∷◌, ◌++◌, length, take, nat_lt, refl}
-use Rattle.std.proofs.Common.{sym, ap, subst, ◌∙◌, append_assoc, append_nil, arith, length-take, length-append, take_all}
+use Rattle.std.proofs.Common.{sym, ap, subst, ◌∙◌, append_assoc, append-nil, arith, length-take, length-append, take_all}
 use Rattle.std.proofs.Math.Bridge.{le_prop}
 use Rattle.tally.specs.Twelve.{take_front, take_back, flag_assoc, or_false, flag_right, few_of}
 
@@ -78,6 +78,6 @@ followed_left a = same_leading _ _ (take_all 12 a.numbers a.few) (flag_right a.m
 
 pub followed_right : (a : Leading) → followed a (leading [] false) ≡ a
 followed_right a =
-    let e : a.numbers ++ [] ≡ a.numbers = append_nil a.numbers in
+    let e : a.numbers ++ [] ≡ a.numbers = append-nil a.numbers in
     same_leading _ _ (ap (take 12) e ∙ take_all 12 a.numbers a.few)
     (ap (λ (xs : List ℕ). (a.more || false) || nat_lt 12 (length xs)) e ∙ ap (λ (m : Bool). m || nat_lt 12 (length a.numbers)) (or_false a.more) ∙ flag_right a.more a.numbers a.few)

@@ -36,16 +36,16 @@ returns-then-stands-2 c = record { value = ap (placed c.args.at) (chosen_yes (fo
 pub returns-else-stands-2 : goal.returns-else-stands-2
 returns-else-stands-2 c = record { value = ap (placed c.args.at) (chosen_no (found (symbol DoubleColon) 2) strange c.if-stands-2.ensures) ∙ at_byte _ _ 58 c.if-at-text.false c.in-58.is; ends = search rules }
 
-pub returns-then-is-begin : goal.returns-then-is-begin
-returns-then-is-begin c = record {
-  value = c.name-at.ensures.value ∙ ap (λ l. placed c.args.at (name_of l)) (split_at _ _ c.if-at-text.false)
-      ∙ ap (placed c.args.at) (name_front (get_or c.args.text.now c.args.at 0) (drop (c.args.at + 1) c.args.text.now) c.if-is-begin.ensures) ∙ at_byte _ _ _ c.if-at-text.false refl;
-  ends = c.name-at.ensures.ends;
+pub returns-then-is_begin : goal.returns-then-is_begin
+returns-then-is_begin c = record {
+  value = c.name_at.ensures.value ∙ ap (λ l. placed c.args.at (name_of l)) (split_at _ _ c.if-at-text.false)
+      ∙ ap (placed c.args.at) (name_front (get_or c.args.text.now c.args.at 0) (drop (c.args.at + 1) c.args.text.now) c.if-is_begin.ensures) ∙ at_byte _ _ _ c.if-at-text.false refl;
+  ends = c.name_at.ensures.ends;
 }
 
-pub returns-else-is-begin : goal.returns-else-is-begin
-returns-else-is-begin c = record {
-  value = ap (placed c.args.at) (none_front (get_or c.args.text.now c.args.at 0) (drop (c.args.at + 1) c.args.text.now) c.if-is-begin.ensures (omega arith) (omega arith) (omega arith) (omega arith) (omega arith) (omega arith) (omega arith))
+pub returns-else-is_begin : goal.returns-else-is_begin
+returns-else-is_begin c = record {
+  value = ap (placed c.args.at) (none_front (get_or c.args.text.now c.args.at 0) (drop (c.args.at + 1) c.args.text.now) c.if-is_begin.ensures (omega arith) (omega arith) (omega arith) (omega arith) (omega arith) (omega arith) (omega arith))
       ∙ at_byte _ _ _ c.if-at-text.false refl;
   ends = search rules;
 }

@@ -13,7 +13,7 @@ returns-in-err-table c =
     let f = c.in-err-table.field-0.0 in
     let b = err_from_is_err_and c.from-residual.result c.from-residual.ensures.1 in
     let is : c.from-residual.result ≡ Err f = b.1 ∙ ap Err b.2 in
-    let m = c.most-bytes.ensures in
+    let m = c.most_bytes.ensures in
     record { answer = subst (Answers bs) (sym is) c.in-err-table.ensures; sound = m.sound; complete = m.complete; unambiguous = m.unambiguous; grammar = m.grammar; limits = m.limits }
 
 pub invariant-of-result : goal.invariant-of-result
@@ -30,7 +30,7 @@ pub returns : goal.returns
 returns c =
     let bs = c.args.text.now in
     let g = c.in-ok-table.ensures in
-    let m = c.most-bytes.ensures in
+    let m = c.most_bytes.ensures in
     record {
       answer = (c.copied.ensures, g.2 ∙ ap accepted (sym (path_is bs g.0 g.2) ∙ ap path_in (sym c.copied.ensures)));
       sound = m.sound;

@@ -14,8 +14,8 @@ loop-step-init c =
     let z : 0 ≡ k - k = omega arith in
     (omega arith, adds_as (sym states_none ∙ ap (λ n. states_code (outsides c.args.names.now (text_in q) q.table k n)) z) (adds_none c.args.out.now c.args.at))
 
-pub put-outside-then-requires : goal.put-outside-then-requires
-put-outside-then-requires c =
+pub put_outside-then-requires : goal.put_outside-then-requires
+put_outside-then-requires c =
     let q = c.args.query.now in
     let b = outsides_before c.args.names.now (text_in q) q.table c.loop-step.step q.table.outside_count (omega arith) c.loop-step.invariant.0 in
     let g = b.1 in
@@ -27,7 +27,7 @@ pub loop-step-preserved : goal.loop-step-preserved
 loop-step-preserved c =
     let q = c.args.query.now in
     let b = outsides_before c.args.names.now (text_in q) q.table c.loop-step.step q.table.outside_count (omega arith) c.loop-step.invariant.0 in
-    (omega arith, adds_as (sym b.0) (adds_more c.loop-step.invariant.1 c.put-outside-then.ensures))
+    (omega arith, adds_as (sym b.0) (adds_more c.loop-step.invariant.1 c.put_outside-then.ensures))
 
 pub returns : goal.returns
 returns c =

@@ -5,9 +5,9 @@ use Rattle.translate.proofs.write_program.Goals as goal
 pub turn-requires : goal.turn-requires
 turn-requires c =
     let s = short c.args.names.now c.args.query.now in
-    let m = c.put-program-end.ensures.many in
+    let m = c.put_program-end.ensures.many in
     omega arith
 
 pub returns : goal.returns
 returns c =
-    turned c.args.names.now c.args.query.now c.args.out.now c.put-program-end.new.out c.turn.new.out c.put-program-end.result c.put-program-end.ensures c.turn.ensures
+    turned c.args.names.now c.args.query.now c.args.out.now c.put_program-end.new.out c.turn.new.out c.put_program-end.result c.put_program-end.ensures c.turn.ensures

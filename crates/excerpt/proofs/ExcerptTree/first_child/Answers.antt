@@ -16,9 +16,9 @@ returns-then-v-size g c =
 pub returns-in-Some : goal.returns-in-Some
 returns-in-Some g c =
     let x = c.args.self.now in
-    ap (lower x.node) (sym c.in-Some.is ∙ c.first-child.ensures) ∙ excerpt_first (g.T.Tree.rows x.tree.now) x.node c.args.v (omega arith)
+    ap (lower x.node) (sym c.in-Some.is ∙ c.first_child.ensures) ∙ excerpt_first (g.T.Tree.rows x.tree.now) x.node c.args.v (omega arith)
 
 pub returns-in-None : goal.returns-in-None
 returns-in-None g c =
     let x = c.args.self.now in
-    ap (lower x.node) (sym c.in-None.is ∙ c.first-child.ensures) ∙ excerpt_first (g.T.Tree.rows x.tree.now) x.node c.args.v (omega arith)
+    ap (lower x.node) (sym c.in-None.is ∙ c.first_child.ensures) ∙ excerpt_first (g.T.Tree.rows x.tree.now) x.node c.args.v (omega arith)

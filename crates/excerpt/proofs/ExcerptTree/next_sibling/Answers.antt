@@ -12,7 +12,7 @@ overflow-add-self g c =
 pub overflow-sub-result : goal.overflow-sub-result
 overflow-sub-result g c =
     let x = c.args.self.now in
-    omega (arith, next_later (g.T.Tree.rows x.tree.now) _ _ (sym c.next-sibling.ensures ∙ c.in-Some.is))
+    omega (arith, next_later (g.T.Tree.rows x.tree.now) _ _ (sym c.next_sibling.ensures ∙ c.in-Some.is))
 
 pub returns-then-v-eq0 : goal.returns-then-v-eq0
 returns-then-v-eq0 g c =
@@ -25,9 +25,9 @@ returns-then-v-eq0 g c =
 pub returns-in-Some : goal.returns-in-Some
 returns-in-Some g c =
     let x = c.args.self.now in
-    ap (lower x.node) (sym c.in-Some.is ∙ c.next-sibling.ensures) ∙ excerpt_next (g.T.Tree.rows x.tree.now) x.node c.args.v c.if-v-eq0.false (omega arith)
+    ap (lower x.node) (sym c.in-Some.is ∙ c.next_sibling.ensures) ∙ excerpt_next (g.T.Tree.rows x.tree.now) x.node c.args.v c.if-v-eq0.false (omega arith)
 
 pub returns-in-None : goal.returns-in-None
 returns-in-None g c =
     let x = c.args.self.now in
-    ap (lower x.node) (sym c.in-None.is ∙ c.next-sibling.ensures) ∙ excerpt_next (g.T.Tree.rows x.tree.now) x.node c.args.v c.if-v-eq0.false (omega arith)
+    ap (lower x.node) (sym c.in-None.is ∙ c.next_sibling.ensures) ∙ excerpt_next (g.T.Tree.rows x.tree.now) x.node c.args.v c.if-v-eq0.false (omega arith)

@@ -13,5 +13,5 @@ loop-p-preserved c =
     let bs = bits_of c.args.bits.now in
     let p = c.loop-p.p in
     let long = bits_length c.args.bits.now in
-    c.write-bit.ensures ∙ ap (λ (l : List Bool). set l p false) c.loop-p.invariant ∙ clear_more bs c.args.from p (omega arith) (omega arith)
+    c.write_bit.ensures ∙ ap (λ (l : List Bool). set l p false) c.loop-p.invariant ∙ clear_more bs c.args.from p (omega arith) (omega arith)
     ∙ ap (cleared bs c.args.from) (sym (add-one p))

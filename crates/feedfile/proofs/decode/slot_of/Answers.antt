@@ -1,4 +1,4 @@
-use Rattle.std.proofs.Common.{◌≡◌, ℕ, suc, ◌+◌, ◌<◌, List, ◌++◌, length, get_or, take, drop, set, replicate, sym, ap, ◌∙◌, append_nil, add-one, arith, length-take}
+use Rattle.std.proofs.Common.{◌≡◌, ℕ, suc, ◌+◌, ◌<◌, List, ◌++◌, length, get_or, take, drop, set, replicate, sym, ap, ◌∙◌, append-nil, add-one, arith, length-take}
 use Rattle.std.proofs.lemmas.List.{get_or-take, take-take}
 use Rattle.names.proofs.Lists.{fill_more}
 use Rattle.feedfile.proofs.decode.slot_of.Goals as goal
@@ -20,4 +20,4 @@ pub returns : goal.returns
 returns c =
     let bs = c.args.bytes.now in
     let i : c.loop-i.i ≡ 32 = omega arith in
-    c.loop-i.invariant ∙ ap (λ (k : ℕ). take k (take 32 bs) ++ drop k zeros) i ∙ append_nil (take 32 (take 32 bs)) ∙ take-take 32 32 bs (omega arith)
+    c.loop-i.invariant ∙ ap (λ (k : ℕ). take k (take 32 bs) ++ drop k zeros) i ∙ append-nil (take 32 (take 32 bs)) ∙ take-take 32 32 bs (omega arith)

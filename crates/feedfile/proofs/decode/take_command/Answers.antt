@@ -14,7 +14,7 @@ pub returns-in-3 : goal.returns-in-3
 returns-in-3 c = plain_at 3 (Feed Text) c.args.bytes.now refl (search rules) (search rules) (λ xs. refl)
 
 pub returns-in-4 : goal.returns-in-4
-returns-in-4 c = slot_at _ c.args.bytes.now (search rules) (search rules) c.take-slot.ensures
+returns-in-4 c = slot_at _ c.args.bytes.now (search rules) (search rules) c.take_slot.ensures
 
 pub returns-in-15 : goal.returns-in-15
 returns-in-15 c = plain_at 15 Seal c.args.bytes.now refl (search rules) (search rules) (λ xs. refl)

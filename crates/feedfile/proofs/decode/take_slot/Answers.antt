@@ -10,5 +10,5 @@ use Rattle.feedfile.proofs.decode.take_slot.Goals as goal
 pub returns : goal.returns
 returns c =
     let bs = c.args.bytes.now in
-    ap₂ (λ (s r : List ℕ). found (Feed (Name s)) r) c.slot-of-slot.ensures (all_from 32 bs)
+    ap₂ (λ (s r : List ℕ). found (Feed (Name s)) r) c.slot_of-slot.ensures (all_from 32 bs)
     ∙ ap (with_rest bs) (sym (cond-false _ _ _ (le-ltb _ _ c.if-bytes-lt32.false)))

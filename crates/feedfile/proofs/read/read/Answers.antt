@@ -28,8 +28,8 @@ returns-in-Ok-seal c =
       blocks =
           c.in-Ok-seal.ensures.blocks ∙ ap (λ (x : Told). filled c.seal.new.bits x.feed.nodes c.args.directory.now) e
           ∙ ap (λ (r : Result ℕ FileFault). directory_left r t.feed c.seal.new.bits c.args.directory.now) (sym answer);
-      tells = c.laws-stand.ensures.tells;
-      shows = c.laws-stand.ensures.shows;
+      tells = c.laws_stand.ensures.tells;
+      shows = c.laws_stand.ensures.shows;
     }
 
 pub returns-in-Err-seal : goal.returns-in-Err-seal
@@ -53,6 +53,6 @@ returns-in-Err-seal c =
       blocks =
           c.in-Err-seal.ensures.blocks
           ∙ ap (λ (r : Result ℕ FileFault). directory_left r t.feed c.seal.new.bits c.args.directory.now) (sym answer);
-      tells = c.laws-stand.ensures.tells;
-      shows = c.laws-stand.ensures.shows;
+      tells = c.laws_stand.ensures.tells;
+      shows = c.laws_stand.ensures.shows;
     }

@@ -11,20 +11,20 @@ pub returns-then-bytes-i-eq0 : goal.returns-then-bytes-i-eq0
 returns-then-bytes-i-eq0 c =
     let xs = c.args.bytes.now in
     let i = c.loop-i.i in
-    c.blank-from.ensures ∙ at_drop_more blank xs i 0 (omega arith) ∙ sym (cond-true _ _ _ (eq-eqb _ _ c.if-bytes-i-eq0.true)) ∙ sym (step xs i (omega arith)) ∙ c.loop-i.invariant
+    c.blank_from.ensures ∙ at_drop_more blank xs i 0 (omega arith) ∙ sym (cond-true _ _ _ (eq-eqb _ _ c.if-bytes-i-eq0.true)) ∙ sym (step xs i (omega arith)) ∙ c.loop-i.invariant
 
-pub returns-then-not-goes-on : goal.returns-then-not-goes-on
-returns-then-not-goes-on c =
+pub returns-then-not-goes_on : goal.returns-then-not-goes_on
+returns-then-not-goes_on c =
     let xs = c.args.bytes.now in
     let i = c.loop-i.i in
-    ap (λ (g : Bool). g && goes_on_all (drop (i + 1) xs)) c.if-not-goes-on.ensures
+    ap (λ (g : Bool). g && goes_on_all (drop (i + 1) xs)) c.if-not-goes_on.ensures
     ∙ sym (cond-false _ _ _ (ne_eqb _ _ c.if-bytes-i-eq0.false)) ∙ sym (step xs i (omega arith)) ∙ c.loop-i.invariant
 
 pub loop-i-preserved : goal.loop-i-preserved
 loop-i-preserved c =
     let xs = c.args.bytes.now in
     let i = c.loop-i.i in
-    ap (λ (g : Bool). g && goes_on_all (drop (i + 1) xs)) c.if-not-goes-on.ensures
+    ap (λ (g : Bool). g && goes_on_all (drop (i + 1) xs)) c.if-not-goes_on.ensures
     ∙ sym (cond-false _ _ _ (ne_eqb _ _ c.if-bytes-i-eq0.false)) ∙ sym (step xs i (omega arith)) ∙ c.loop-i.invariant
 
 pub returns : goal.returns

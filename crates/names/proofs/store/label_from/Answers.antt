@@ -10,12 +10,12 @@ step xs s i h k =
     at_drop_more (λ (l : List (List ℕ)). label_from (i + 2) l s) (take 512 xs) i [] (omega (arith, length-take 512 xs))
     ∙ ap (λ (x : List ℕ). cond (bytes_eq x s) (i + 2) (label_from (i + 2 + 1) (drop (i + 1) (take 512 xs)) s)) (get_or-take 512 xs i [] k)
 
-pub returns-then-same-slot : goal.returns-then-same-slot
-returns-then-same-slot c =
+pub returns-then-same_slot : goal.returns-then-same_slot
+returns-then-same_slot c =
     let xs = c.args.store.now in
     let i = c.loop-i.i in
     let s = c.args.slot.now in
-    sym (cond-true _ _ _ (sym c.if-same-slot.ensures)) ∙ sym (step xs s i (omega arith) (omega arith)) ∙ c.loop-i.invariant
+    sym (cond-true _ _ _ (sym c.if-same_slot.ensures)) ∙ sym (step xs s i (omega arith) (omega arith)) ∙ c.loop-i.invariant
 
 pub loop-i-preserved : goal.loop-i-preserved
 loop-i-preserved c =
@@ -23,7 +23,7 @@ loop-i-preserved c =
     let i = c.loop-i.i in
     let s = c.args.slot.now in
     let one : i + 1 + 2 ≡ i + 2 + 1 = omega arith in
-    ap (λ (k : ℕ). label_from k (drop (i + 1) (take 512 xs)) s) one ∙ sym (cond-false _ _ _ (sym c.if-same-slot.ensures))
+    ap (λ (k : ℕ). label_from k (drop (i + 1) (take 512 xs)) s) one ∙ sym (cond-false _ _ _ (sym c.if-same_slot.ensures))
     ∙ sym (step xs s i (omega arith) (omega arith)) ∙ c.loop-i.invariant
 
 pub returns : goal.returns

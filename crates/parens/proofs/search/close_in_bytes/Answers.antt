@@ -15,8 +15,8 @@ overflow-cast-here c = let h = c.loop-i.invariant.1 in search rules
 pub overflow-add-here : goal.overflow-add-here
 overflow-add-here c = let h = c.loop-i.invariant.1 in search (rules, ints)
 
-pub close-in-bits-requires : goal.close-in-bits-requires
-close-in-bits-requires c = record { order = omega arith; within = omega arith; low = c.loop-i.invariant.1 }
+pub close_in_bits-requires : goal.close_in_bits-requires
+close_in_bits-requires c = record { order = omega arith; within = omega arith; low = c.loop-i.invariant.1 }
 
 pub returns-in-Some : goal.returns-in-Some
 returns-in-Some c = c.loop-i.invariant.0 ∙ c.in-Some.ensures
@@ -44,7 +44,7 @@ loop-i-preserved c =
       | then-here-least-lt0+in-default w ↦
           let k = w.in-default.ensures in
           let z : 8 * i + 8 ≡ 8 * (i + 1) = omega arith in (
-            c.loop-i.invariant.0 ∙ k.0 ∙ ap (λ (p : ℕ). p + close w.close-in-bits.new.excess (drop p (bits_of xs))) z ∙ ap (λ (x : ℕ). 8 * (i + 1) + close x (drop (8 * (i + 1)) (bits_of xs))) (sym w.excess-is),
+            c.loop-i.invariant.0 ∙ k.0 ∙ ap (λ (p : ℕ). p + close w.close_in_bits.new.excess (drop p (bits_of xs))) z ∙ ap (λ (x : ℕ). 8 * (i + 1) + close x (drop (8 * (i + 1)) (bits_of xs))) (sym w.excess-is),
             omega (arith, k.1, w.excess-is),
           )
       | else-here-least-lt0 w ↦

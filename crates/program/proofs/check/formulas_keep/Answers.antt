@@ -18,12 +18,12 @@ pub loop-command-preserved : goal.loop-command-preserved
 loop-command-preserved c =
     let l = c.loop-command in
     let d = c.in-Some.command in
-    let s = c.in-Some-after-formula in
+    let s = c.in-Some-after_formula in
     let k = taken_less l.bytes.now d c.in-Some.rest.now (sym c.in-Some.ensures) in
     let u = formula_up c.args.states d l.at s.next (sym s.ensures) in (
       omega (arith, l.invariant.0),
       ap (λ (o : Option Formulas). thence o (formulas_keep c.args.states (commands_of c.in-Some.rest.now))) s.ensures
-          ∙ formulas_next c.args.states d (commands_of c.in-Some.rest.now) l.at (sym c.opens-state.ensures ∙ c.if-opens-state.false)
+          ∙ formulas_next c.args.states d (commands_of c.in-Some.rest.now) l.at (sym c.opens_state.ensures ∙ c.if-opens_state.false)
           ∙ ap (λ (cs : List Command). formulas_keep c.args.states cs l.at) (next_command l.bytes.now d d c.in-Some.rest.now c.in-Some.ensures refl)
           ∙ l.invariant.1,
     )
@@ -38,7 +38,7 @@ returns-then-at-eq0 c =
     let l = c.loop-command in
     let d = c.in-Some.command in
     sym (ap (λ b. b && eqb l.at.state c.args.states) (eq-eqb l.at.depth 0 c.if-at-eq0.true))
-    ∙ formulas_stop c.args.states d (commands_of c.in-Some.rest.now) l.at (sym c.opens-state.ensures ∙ c.if-opens-state.true)
+    ∙ formulas_stop c.args.states d (commands_of c.in-Some.rest.now) l.at (sym c.opens_state.ensures ∙ c.if-opens_state.true)
     ∙ ap (λ (cs : List Command). formulas_keep c.args.states cs l.at) (next_command l.bytes.now d d c.in-Some.rest.now c.in-Some.ensures refl)
     ∙ l.invariant.1
 
@@ -48,15 +48,15 @@ returns-else-at-eq0 c =
     let d = c.in-Some.command in
     let off = ne_eqb l.at.depth 0 c.if-at-eq0.false in
     off ∙ sym (ap (λ b. b && eqb l.at.state c.args.states) off)
-    ∙ formulas_stop c.args.states d (commands_of c.in-Some.rest.now) l.at (sym c.opens-state.ensures ∙ c.if-opens-state.true)
+    ∙ formulas_stop c.args.states d (commands_of c.in-Some.rest.now) l.at (sym c.opens_state.ensures ∙ c.if-opens_state.true)
     ∙ ap (λ (cs : List Command). formulas_keep c.args.states cs l.at) (next_command l.bytes.now d d c.in-Some.rest.now c.in-Some.ensures refl)
     ∙ l.invariant.1
 
-pub returns-in-default-after-formula : goal.returns-in-default-after-formula
-returns-in-default-after-formula c =
+pub returns-in-default-after_formula : goal.returns-in-default-after_formula
+returns-in-default-after_formula c =
     let l = c.loop-command in
     let d = c.in-Some.command in
-    ap (λ (o : Option Formulas). thence o (formulas_keep c.args.states (commands_of c.in-Some.rest.now))) c.in-default-after-formula.ensures
-    ∙ formulas_next c.args.states d (commands_of c.in-Some.rest.now) l.at (sym c.opens-state.ensures ∙ c.if-opens-state.false)
+    ap (λ (o : Option Formulas). thence o (formulas_keep c.args.states (commands_of c.in-Some.rest.now))) c.in-default-after_formula.ensures
+    ∙ formulas_next c.args.states d (commands_of c.in-Some.rest.now) l.at (sym c.opens_state.ensures ∙ c.if-opens_state.false)
     ∙ ap (λ (cs : List Command). formulas_keep c.args.states cs l.at) (next_command l.bytes.now d d c.in-Some.rest.now c.in-Some.ensures refl)
     ∙ l.invariant.1

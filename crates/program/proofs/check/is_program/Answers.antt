@@ -32,12 +32,12 @@ returns-in-Some c =
     let N = c.in-Some.counts in
     let short : length bs ≤ 2048 = omega arith in
     record {
-      exact = c.all-keep.ensures ∙ ap (kept bs) c.in-Some.ensures ∙ sym (ap (λ b. b && kept bs (surveyed bs)) (le-leb (length bs) 2048 short));
+      exact = c.all_keep.ensures ∙ ap (kept bs) c.in-Some.ensures ∙ sym (ap (λ b. b && kept bs (surveyed bs)) (le-leb (length bs) 2048 short));
       means = (
-        λ e. accepts bs N short (sym c.in-Some.ensures) (sym c.all-keep.ensures ∙ e),
+        λ e. accepts bs N short (sym c.in-Some.ensures) (sym c.all_keep.ensures ∙ e),
         λ loadable.
             let found : ◌≡◌ {A = Option Counts} (Some N) (Some (counts (commands_of bs))) = c.in-Some.ensures ∙ loadable_survey bs loadable in
             let same : N ≡ counts (commands_of bs) = cc in
-            c.all-keep.ensures ∙ ap (λ (x : Counts). all_keep x (commands_of bs)) same ∙ loadable_keeps bs loadable,
+            c.all_keep.ensures ∙ ap (λ (x : Counts). all_keep x (commands_of bs)) same ∙ loadable_keeps bs loadable,
       );
     }

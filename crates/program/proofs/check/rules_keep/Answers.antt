@@ -18,7 +18,7 @@ pub loop-command-preserved : goal.loop-command-preserved
 loop-command-preserved c =
     let l = c.loop-command in
     let d = c.in-Some.command in
-    let s = c.in-Some-after-rule in
+    let s = c.in-Some-after_rule in
     let k = taken_less l.bytes.now d c.in-Some.rest.now (sym c.in-Some.ensures) in
     let u = rule_up c.args.counts d l.at s.next (sym s.ensures) in (
       omega (arith, l.invariant.0),
@@ -37,16 +37,16 @@ pub returns-then-ends : goal.returns-then-ends
 returns-then-ends c =
     let l = c.loop-command in
     let d = c.in-Some.command in
-    c.stands-closed.ensures
+    c.stands_closed.ensures
     ∙ rules_stop c.args.counts d (commands_of c.in-Some.rest.now) l.at (sym c.ends.ensures ∙ c.if-ends.true)
     ∙ ap (λ (cs : List Command). rules_keep c.args.counts cs l.at) (next_command l.bytes.now d d c.in-Some.rest.now c.in-Some.ensures refl)
     ∙ l.invariant.1
 
-pub returns-in-default-after-rule : goal.returns-in-default-after-rule
-returns-in-default-after-rule c =
+pub returns-in-default-after_rule : goal.returns-in-default-after_rule
+returns-in-default-after_rule c =
     let l = c.loop-command in
     let d = c.in-Some.command in
-    ap (λ (o : Option Rules). thence o (rules_keep c.args.counts (commands_of c.in-Some.rest.now))) c.in-default-after-rule.ensures
+    ap (λ (o : Option Rules). thence o (rules_keep c.args.counts (commands_of c.in-Some.rest.now))) c.in-default-after_rule.ensures
     ∙ rules_next c.args.counts d (commands_of c.in-Some.rest.now) l.at (sym c.ends.ensures ∙ c.if-ends.false)
     ∙ ap (λ (cs : List Command). rules_keep c.args.counts cs l.at) (next_command l.bytes.now d d c.in-Some.rest.now c.in-Some.ensures refl)
     ∙ l.invariant.1

@@ -12,7 +12,7 @@ loop-command-smaller c = taken_less c.loop-command.bytes.now c.in-Some.command c
 pub loop-command-preserved : goal.loop-command-preserved
 loop-command-preserved c =
     let l = c.loop-command in
-    ap (λ (a : Asked). asked (commands_of c.in-Some.rest.now) a) c.with-command-asked.ensures
+    ap (λ (a : Asked). asked (commands_of c.in-Some.rest.now) a) c.with_command-asked.ensures
     ∙ ap (λ (cs : List Command). asked cs l.asked) (next_command l.bytes.now c.in-Some.command c.in-Some.command c.in-Some.rest.now c.in-Some.ensures refl)
     ∙ l.invariant
 

@@ -85,7 +85,7 @@ loop-command-preserved c =
     let l = c.loop-command in
     let k = taken_less l.bytes.now c.in-Some.command c.in-Some.rest.now (sym c.in-Some.ensures) in (
       omega (arith, l.invariant.0),
-      ap (λ (w : ℕ). decide c.args.node (commands_of c.in-Some.rest.now) 0 w (l.state + 1)) (c.put-bit-word.ensures ∙ ap (put_bit l.word l.state) c.top.ensures)
+      ap (λ (w : ℕ). decide c.args.node (commands_of c.in-Some.rest.now) 0 w (l.state + 1)) (c.put_bit-word.ensures ∙ ap (put_bit l.word l.state) c.top.ensures)
           ∙ ap (λ (cs : List Command). decide c.args.node cs l.stack l.word l.state) (next_command l.bytes.now c.in-Some.command Define c.in-Some.rest.now c.in-Some.ensures c.in-Define.is)
           ∙ l.invariant.1,
     )

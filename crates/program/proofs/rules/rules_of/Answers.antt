@@ -15,15 +15,15 @@ pub loop-command-preserved : goal.loop-command-preserved
 loop-command-preserved c =
     let l = c.loop-command in
     let d = c.in-Some.command in
-    sym (cond-true (deciding d) (after_deciding (commands_of c.in-Some.rest.now)) (d ∷ (commands_of c.in-Some.rest.now)) (sym c.is-deciding.ensures ∙ c.if-not-is-deciding.false))
+    sym (cond-true (deciding d) (after_deciding (commands_of c.in-Some.rest.now)) (d ∷ (commands_of c.in-Some.rest.now)) (sym c.is_deciding.ensures ∙ c.if-not-is_deciding.false))
     ∙ ap after_deciding (next_command l.bytes.now c.in-Some.command d c.in-Some.rest.now c.in-Some.ensures refl) ∙ l.invariant
 
-pub returns-then-not-is-deciding : goal.returns-then-not-is-deciding
-returns-then-not-is-deciding c =
+pub returns-then-not-is_deciding : goal.returns-then-not-is_deciding
+returns-then-not-is_deciding c =
     let l = c.loop-command in
     let d = c.in-Some.command in
     sym (next_command l.bytes.now c.in-Some.command d c.in-Some.rest.now c.in-Some.ensures refl)
-    ∙ sym (cond-false (deciding d) (after_deciding (commands_of c.in-Some.rest.now)) (d ∷ (commands_of c.in-Some.rest.now)) (sym c.is-deciding.ensures ∙ c.if-not-is-deciding.true))
+    ∙ sym (cond-false (deciding d) (after_deciding (commands_of c.in-Some.rest.now)) (d ∷ (commands_of c.in-Some.rest.now)) (sym c.is_deciding.ensures ∙ c.if-not-is_deciding.true))
     ∙ ap after_deciding (next_command l.bytes.now c.in-Some.command d c.in-Some.rest.now c.in-Some.ensures refl) ∙ l.invariant
 
 pub returns : goal.returns

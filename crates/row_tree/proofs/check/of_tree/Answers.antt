@@ -6,7 +6,7 @@ use Rattle.stored.specs.Fits.{Fitting}
 use Rattle.stored.proofs.Passed.{pass_decides}
 use Rattle.row_tree.proofs.Decided.{refuted, confirmed}
 use Rattle.row_tree.proofs.check.of_tree.Goals as goal
-use Rattle.row_tree.proofs.check.of_tree.Goals.{then-n-eq0-via-then-n-eq0, then-n-eq0-via-else-n-eq0+then-n-gt8192, then-n-eq0-via-else-n-eq0+else-n-gt8192+then-not-is-root}
+use Rattle.row_tree.proofs.check.of_tree.Goals.{then-n-eq0-via-then-n-eq0, then-n-eq0-via-else-n-eq0+then-n-gt8192, then-n-eq0-via-else-n-eq0+else-n-gt8192+then-not-is_root}
 
 pub returns-then-n-eq0 : goal.returns-then-n-eq0
 returns-then-n-eq0 c =
@@ -15,9 +15,9 @@ returns-then-n-eq0 c =
     elim c.then-n-eq0.branch [
       | then-n-eq0-via-then-n-eq0 w ↦ omega (arith, w.if-n-eq0.true, f.some)
       | then-n-eq0-via-else-n-eq0+then-n-gt8192 w ↦ omega (arith, w.if-n-gt8192.true, f.few)
-      | then-n-eq0-via-else-n-eq0+else-n-gt8192+then-not-is-root w ↦
+      | then-n-eq0-via-else-n-eq0+else-n-gt8192+then-not-is_root w ↦
           let r = and_from _ _ (and_from _ _ (eq-eqb _ _ f.root_label) (eq-eqb _ _ f.root_distance)) (eq-eqb _ _ f.root_size) in
-          let e : false ≡ true = sym w.if-not-is-root.true ∙ w.is-root.ensures ∙ r in
+          let e : false ≡ true = sym w.if-not-is_root.true ∙ w.is_root.ensures ∙ r in
           let z : ◌≡◌ {A = ℕ} 0 1 = cc in
           omega arith
     ])
@@ -31,7 +31,7 @@ returns-then-not-fits c =
 pub returns : goal.returns
 returns c =
     let es = c.args.rows.now in
-    let r = sym c.is-root.ensures ∙ c.if-not-is-root.false in
+    let r = sym c.is_root.ensures ∙ c.if-not-is_root.false in
     let h = and_parts (eqb (at es 0).label 0 && eqb (at es 0).distance 0) (eqb (at es 0).size (length es)) r in
     let k = and_parts (eqb (at es 0).label 0) (eqb (at es 0).distance 0) h.0 in
     confirmed (OfTree es)

@@ -8,8 +8,8 @@ use Rattle.stored.proofs.Kept.{stored_length, stored_read}
 use Rattle.row_tree.proofs.Written.{fill_more, fill_read, reloads}
 use Rattle.row_tree.proofs.write.write_rows.Goals as goal
 
-pub row-of-row-requires : goal.row-of-row-requires
-row-of-row-requires g c =
+pub row_of-row-requires : goal.row_of-row-requires
+row_of-row-requires g c =
     let t = g.T.Tree.rows c.args.tree.now in
     let n = stored_length t in
     record {
@@ -24,8 +24,8 @@ loop-v-preserved g c =
     let t = g.T.Tree.rows c.args.tree.now in
     let n = stored_length t in
     let v = c.loop-v.v in
-    let same : c.row-of-row.result ≡ get_or (stored_of t) v blank = c.row-of-row.ensures ∙ sym (stored_read t v (omega arith)) in
-    ap (λ (l : List StoredRow). set l v c.row-of-row.result) c.loop-v.invariant ∙ ap (set (take v (stored_of t) ++ drop v c.args.out.now) v) same
+    let same : c.row_of-row.result ≡ get_or (stored_of t) v blank = c.row_of-row.ensures ∙ sym (stored_read t v (omega arith)) in
+    ap (λ (l : List StoredRow). set l v c.row_of-row.result) c.loop-v.invariant ∙ ap (set (take v (stored_of t) ++ drop v c.args.out.now) v) same
     ∙ fill_more (stored_of t) c.args.out.now v blank (omega arith) (omega arith) ∙ ap (λ (k : ℕ). take k (stored_of t) ++ drop k c.args.out.now) (sym (add-one v))
 
 pub returns : goal.returns

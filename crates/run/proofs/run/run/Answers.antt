@@ -16,13 +16,13 @@ loop-i-preserved g c =
     let i = c.loop-i.i in
     let cs = c.args.calls.now in
     let gs = c.loop-i.answers in
-    let a = c.carry-out-answer.ensures in
+    let a = c.carry_out-answer.ensures in
     let hc : i < length cs = omega (arith, c.min-n.ensures, c.loop-i-test.true) in
     let hg : i < length gs = omega (arith, c.min-n.ensures, c.loop-i-test.true, c.loop-i.auto.answers) in (
-      λ n. subst (λ (ts : List (Turn (k.Value n))). Ran (k.empty n) (k.mark n) (k.join n) rows fresh c.args.work.now ts (state_of c.carry-out-answer.new.selector) c.carry-out-answer.new.work)
-          (sym (ap (λ (xs : _). turns_by n (k.value n) (take (i + 1) cs) (take (i + 1) xs)) c.put.ensures ∙ turns_more n (k.value n) i cs gs _ c.carry-out-answer.result hc hg))
+      λ n. subst (λ (ts : List (Turn (k.Value n))). Ran (k.empty n) (k.mark n) (k.join n) rows fresh c.args.work.now ts (state_of c.carry_out-answer.new.selector) c.carry_out-answer.new.work)
+          (sym (ap (λ (xs : _). turns_by n (k.value n) (take (i + 1) cs) (take (i + 1) xs)) c.put.ensures ∙ turns_more n (k.value n) i cs gs _ c.carry_out-answer.result hc hg))
           (ran_more (k.empty n) (k.mark n) (k.join n) rows (turns_by n (k.value n) (take i cs) (take i gs)) _ fresh c.args.work.now (state_of c.loop-i.selector) c.loop-i.work _ _ (c.loop-i.invariant.0 n) (a.answer n) (a.state n) (a.words n)),
-      ap (drop (i + 1)) c.put.ensures ∙ drop-set-lt (i + 1) gs i c.carry-out-answer.result (omega arith) ∙ sym (drop-drop 1 i gs) ∙ ap (drop 1) c.loop-i.invariant.1 ∙ drop-drop 1 i c.args.answers.now,
+      ap (drop (i + 1)) c.put.ensures ∙ drop-set-lt (i + 1) gs i c.carry_out-answer.result (omega arith) ∙ sym (drop-drop 1 i gs) ∙ ap (drop 1) c.loop-i.invariant.1 ∙ drop-drop 1 i c.args.answers.now,
     )
 
 pub returns : goal.returns

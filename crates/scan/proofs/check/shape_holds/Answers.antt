@@ -6,8 +6,8 @@ use Rattle.shape.proofs.Bytes.{bits_length}
 use Rattle.shape.proofs.Lawful.{walk_on, walk_refused, walk_unlabelled, walk_closed, walk_ended, walk_same, refused_bits, refused_labels, refused_closing, refused_root}
 use Rattle.scan.proofs.check.shape_holds.Goals as goal
 use Rattle.scan.proofs.check.shape_holds.Goals.{then-bits-eq0-via-then-bits-eq0, then-bits-eq0-via-else-bits-eq0+then-count-eq0, then-bits-eq0-via-else-bits-eq0+else-count-eq0+then-not-opens, then-bits-eq0-via-else-bits-eq0+else-count-eq0+else-not-opens+then-labels-ne0}
-use Rattle.scan.proofs.check.shape_holds.Goals.{then-v-count-via-then-v-count, then-v-count-via-else-v-count+then-not-may-follow}
-use Rattle.scan.proofs.check.shape_holds.Goals.{then-opens+else-v-count+else-not-may-follow, else-opens}
+use Rattle.scan.proofs.check.shape_holds.Goals.{then-v-count-via-then-v-count, then-v-count-via-else-v-count+then-not-may_follow}
+use Rattle.scan.proofs.check.shape_holds.Goals.{then-opens+else-v-count+else-not-may_follow, else-opens}
 
 pub returns-then-bits-eq0 : goal.returns-then-bits-eq0
 returns-then-bits-eq0 c =
@@ -32,8 +32,8 @@ returns-then-v-count c =
     let opened = sym c.if-opens.ensures in
     elim c.then-v-count.branch [
       | then-v-count-via-then-v-count w ↦ sym (walk_unlabelled k m bs ls p v within w.if-v-count.true opened) ∙ c.loop-p.invariant.0
-      | then-v-count-via-else-v-count+then-not-may-follow w ↦
-          sym (walk_refused k m bs ls p v within w.if-v-count.false opened (sym w.may_follow.ensures ∙ w.if-not-may-follow.true)) ∙ c.loop-p.invariant.0
+      | then-v-count-via-else-v-count+then-not-may_follow w ↦
+          sym (walk_refused k m bs ls p v within w.if-v-count.false opened (sym w.may_follow.ensures ∙ w.if-not-may_follow.true)) ∙ c.loop-p.invariant.0
     ]
 
 pub loop-p-preserved : goal.loop-p-preserved
@@ -48,17 +48,17 @@ loop-p-preserved c =
     let few = c.loop-p.invariant.1 in
     let low = c.loop-p.invariant.2 in
     elim c.if-opens.branch [
-      | then-opens+else-v-count+else-not-may-follow w ↦ (
+      | then-opens+else-v-count+else-not-may_follow w ↦ (
         walk_same _ _ _ _ _ _ (drop (p + 1) bs) ls w.depth-is (w.deepest-is ∙ w.reach-deepest.ensures) w.v-is
-            ∙ sym (walk_on k m bs ls p v within w.if-v-count.false (sym c.opens-in-loop-p.ensures ∙ w.if-opens.true) (sym w.may_follow.ensures ∙ w.if-not-may-follow.false)) ∙ c.loop-p.invariant.0,
+            ∙ sym (walk_on k m bs ls p v within w.if-v-count.false (sym c.opens-in-loop-p.ensures ∙ w.if-opens.true) (sym w.may_follow.ensures ∙ w.if-not-may_follow.false)) ∙ c.loop-p.invariant.0,
         omega (arith, w.v-is, w.if-v-count.false),
         omega (arith, w.depth-is),
       )
       | else-opens w ↦ (
-        walk_same _ _ _ _ _ _ (drop (p + 1) bs) ls (w.depth-is ∙ w.saturating-sub-depth.ensures) w.deepest-is w.v-is
+        walk_same _ _ _ _ _ _ (drop (p + 1) bs) ls (w.depth-is ∙ w.saturating_sub-depth.ensures) w.deepest-is w.v-is
             ∙ sym (walk_closed k m bs ls p v within (sym c.opens-in-loop-p.ensures ∙ w.if-opens.false)) ∙ c.loop-p.invariant.0,
         omega (arith, w.v-is),
-        omega (arith, w.depth-is, w.saturating-sub-depth.ensures),
+        omega (arith, w.depth-is, w.saturating_sub-depth.ensures),
       )
     ]
 

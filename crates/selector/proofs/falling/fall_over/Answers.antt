@@ -10,7 +10,7 @@ use Rattle.sweep.proofs.Idle.{idle_sent}
 use Rattle.sweep.proofs.Sends.{sent_whole, first_apart, next_apart}
 use Rattle.selector.specs.Recalled.{Sends}
 use Rattle.selector.proofs.falling.fall_over.Goals as goal
-use Rattle.selector.proofs.falling.fall_over.Goals.{then-is-entered, else-is-entered}
+use Rattle.selector.proofs.falling.fall_over.Goals.{then-is_entered, else-is_entered}
 
 pub loop-v-preserved : goal.loop-v-preserved
 loop-v-preserved g c =
@@ -23,20 +23,20 @@ loop-v-preserved g c =
     let k : hi - v ≡ suc (hi - (v + 1)) = omega arith in
     let inside : v < length ws = omega arith in
     let known : Memo ℕ Sending → Type 0 = λ m. Recalls (Sends cs) m.places in
-    let on : c.if-is-entered.work ≡ sent (place_at rows v) cs 0 false ws = elim c.if-is-entered.branch [
-      | then-is-entered w ↦
-          w.work-is ∙ w.deliver.ensures ∙ ap (λ (s : Sending). delivered (place_at rows v) s ws) w.recalled-sending-sent.ensures.sent
+    let on : c.if-is_entered.work ≡ sent (place_at rows v) cs 0 false ws = elim c.if-is_entered.branch [
+      | then-is_entered w ↦
+          w.work-is ∙ w.deliver.ensures ∙ ap (λ (s : Sending). delivered (place_at rows v) s ws) w.recalled_sending-sent.ensures.sent
           ∙ sym (sent_whole (place_at rows v) ws inside (first_apart rows v) (next_apart rows v) cs)
-      | else-is-entered w ↦
-          let low : get_or ws v 0 < 1099511627776 = leb-false 1099511627776 (get_or ws v 0) (sym c.is-entered.ensures ∙ w.if-is-entered.false) in
+      | else-is_entered w ↦
+          let low : get_or ws v 0 < 1099511627776 = leb-false 1099511627776 (get_or ws v 0) (sym c.is_entered.ensures ∙ w.if-is_entered.false) in
           w.work-is ∙ sym (idle_sent (place_at rows v) cs 0 ws low)
     ] in (
       ap (λ (xs : List ℕ). fallen rows cs (v + 1) (hi - (v + 1)) xs) on
           ∙ ap (λ (x : ℕ). fallen rows cs x (hi - (v + 1)) (sent (place_at rows v) cs 0 false ws)) up
           ∙ sym (ap (λ (n : ℕ). fallen rows cs v n ws) k)
           ∙ c.loop-v.invariant.0,
-      elim c.if-is-entered.branch [
-        | then-is-entered w ↦ subst known (sym w.memo-is) w.recalled-sending-sent.ensures.memo
-        | else-is-entered w ↦ subst known (sym w.memo-is) c.loop-v.invariant.1
+      elim c.if-is_entered.branch [
+        | then-is_entered w ↦ subst known (sym w.memo-is) w.recalled_sending-sent.ensures.memo
+        | else-is_entered w ↦ subst known (sym w.memo-is) c.loop-v.invariant.1
       ],
     )

@@ -37,7 +37,7 @@ loop-command-preserved-then-active c =
     let l = c.loop-command in
     let k = taken_less l.bytes.now c.in-Some.command c.in-Some.rest.now (sym c.in-Some.ensures) in (
       omega (arith, l.invariant.0),
-      ap (λ (s : Sending). sending c.args.word (commands_of c.in-Some.rest.now) l.state l.active s) (c.with-move-sent.ensures ∙ sym (cond-true l.active (with_move c.in-Make.step l.sent) l.sent c.if-active.true))
+      ap (λ (s : Sending). sending c.args.word (commands_of c.in-Some.rest.now) l.state l.active s) (c.with_move-sent.ensures ∙ sym (cond-true l.active (with_move c.in-Make.step l.sent) l.sent c.if-active.true))
           ∙ ap (λ (cs : List Command). sending c.args.word cs l.state l.active l.sent) (next_command l.bytes.now c.in-Some.command (Make c.in-Make.step) c.in-Some.rest.now c.in-Some.ensures c.in-Make.is)
           ∙ l.invariant.1,
     )

@@ -8,7 +8,7 @@ use Rattle.tallying.specs.Nodes.{marked_nodes}
 use Rattle.tallying.proofs.Marks.{marks_next, unmarked_next}
 use Rattle.selector.specs.Recalled.{Marked}
 use Rattle.selector.proofs.marking.join_marks.Goals as goal
-use Rattle.selector.proofs.marking.join_marks.Goals.{then-is-marked, else-is-marked}
+use Rattle.selector.proofs.marking.join_marks.Goals.{then-is_marked, else-is_marked}
 
 pub loop-v-init : goal.loop-v-init
 loop-v-init g c =
@@ -31,13 +31,13 @@ loop-v-preserved g c =
     let at : lo + (v - lo) ≡ v = omega arith in
     let up : (v - lo) + 1 ≡ (v + 1) - lo = omega arith in
     let last = ap (λ (n : ℕ). marks_of k.empty k.mark k.join (marked_nodes rules ws lo n)) up in (
-      elim c.if-is-marked.branch [
-        | then-is-marked w ↦
+      elim c.if-is_marked.branch [
+        | then-is_marked w ↦
             ap k.value w.sum-is ∙ w.joined-sum.ensures ∙ ap (λ x. k.join x (k.value w.marked.result)) c.loop-v.invariant.0
             ∙ ap (k.join (marks_of k.empty k.mark k.join (marked_nodes rules ws lo (v - lo)))) w.marked.ensures
-            ∙ marks_next laws k.mark rules ws lo (v - lo) v at (sym c.is_marked.ensures.marked ∙ w.if-is-marked.true) ∙ last
-        | else-is-marked w ↦
-            ap k.value w.sum-is ∙ c.loop-v.invariant.0 ∙ ap (marks_of k.empty k.mark k.join) (unmarked_next rules ws lo (v - lo) v at (sym c.is_marked.ensures.marked ∙ w.if-is-marked.false)) ∙ last
+            ∙ marks_next laws k.mark rules ws lo (v - lo) v at (sym c.is_marked.ensures.marked ∙ w.if-is_marked.true) ∙ last
+        | else-is_marked w ↦
+            ap k.value w.sum-is ∙ c.loop-v.invariant.0 ∙ ap (marks_of k.empty k.mark k.join) (unmarked_next rules ws lo (v - lo) v at (sym c.is_marked.ensures.marked ∙ w.if-is_marked.false)) ∙ last
       ],
       c.is_marked.ensures.memo,
     )

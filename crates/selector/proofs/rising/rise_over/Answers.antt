@@ -21,13 +21,13 @@ loop-v-preserved g c =
     let k : suc (c.args.hi - c.loop-v.v) ≡ c.args.hi - v = omega arith in
     let at : later ≡ risen rows cs (suc v) (c.args.hi - c.loop-v.v) ws = c.loop-v.invariant.1 ∙ ap (λ (x : ℕ). risen rows cs x (c.args.hi - c.loop-v.v) ws) e in
     let n : Node = node_at rows later v in
-    let word : c.recalled-word-word.result ≡ decide n cs 0 0 0 =
-    c.recalled-word-word.ensures.word
+    let word : c.recalled_word-word.result ≡ decide n cs 0 0 0 =
+    c.recalled_word-word.ensures.word
     ∙ ap (λ (m : Node). decide m cs 0 0 0) (c.seen.ensures.exact ∙ ap (λ (a : Asked). seen a n) c.asked-asked.ensures)
     ∙ decide_seen cs nothing n 0 0 0 c.seen.ensures.fits in (
       omega (arith, c.loop-v.invariant.0),
       ap (set later v) (c.put_bit.ensures ∙ ap (λ (w : ℕ). put_bit w 40 (eqb v 0)) word)
           ∙ ap (λ (l : List ℕ). set l v (word_at rows cs l v)) at
           ∙ ap (λ (x : ℕ). risen rows cs v x ws) k,
-      c.recalled-word-word.ensures.memo,
+      c.recalled_word-word.ensures.memo,
     )

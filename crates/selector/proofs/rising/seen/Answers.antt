@@ -13,8 +13,8 @@ returns g c =
     let rows = g.T.Tree.rows c.args.tree.now in
     let ws = c.args.work.now in
     let label = c.label.ensures in
-    let first = c.first-seen.ensures in
-    let next = c.next-seen.ensures in
+    let first = c.first_seen.ensures in
+    let next = c.next_seen.ensures in
     record {
       exact = cc;
       fits = record {

@@ -17,7 +17,7 @@ sibling_lead true v w h = h
 sibling_lead false v w h = h
 
 pub returns-in-SelfNode : goal.returns-in-SelfNode
-returns-in-SelfNode c = subst (λ a. Emits (lead_t c.args.slash (axis_of a)) c.args.writer.now c.write-named-axis.new.writer) (sym c.in-SelfNode.is) (self_lead c.args.slash c.args.writer.now c.write-named-axis.new.writer (emits (slash_only c.args.slash) (named_t (axis_word self)) c.args.writer.now c.write-slash.new.writer c.write-named-axis.new.writer c.write-slash.ensures c.write-named-axis.ensures))
+returns-in-SelfNode c = subst (λ a. Emits (lead_t c.args.slash (axis_of a)) c.args.writer.now c.write_named_axis.new.writer) (sym c.in-SelfNode.is) (self_lead c.args.slash c.args.writer.now c.write_named_axis.new.writer (emits (slash_only c.args.slash) (named_t (axis_word self)) c.args.writer.now c.write_slash.new.writer c.write_named_axis.new.writer c.write_slash.ensures c.write_named_axis.ensures))
 
 pub returns-in-FollowingSibling : goal.returns-in-FollowingSibling
-returns-in-FollowingSibling c = subst (λ a. Emits (lead_t c.args.slash (axis_of a)) c.args.writer.now c.write-named-axis-in-FollowingSibling.new.writer) (sym c.in-FollowingSibling.is) (sibling_lead c.args.slash c.args.writer.now c.write-named-axis-in-FollowingSibling.new.writer (emits (slash_only c.args.slash) (named_t (axis_word following_sibling)) c.args.writer.now c.write-slash-in-FollowingSibling.new.writer c.write-named-axis-in-FollowingSibling.new.writer c.write-slash-in-FollowingSibling.ensures c.write-named-axis-in-FollowingSibling.ensures))
+returns-in-FollowingSibling c = subst (λ a. Emits (lead_t c.args.slash (axis_of a)) c.args.writer.now c.write_named_axis-in-FollowingSibling.new.writer) (sym c.in-FollowingSibling.is) (sibling_lead c.args.slash c.args.writer.now c.write_named_axis-in-FollowingSibling.new.writer (emits (slash_only c.args.slash) (named_t (axis_word following_sibling)) c.args.writer.now c.write_slash-in-FollowingSibling.new.writer c.write_named_axis-in-FollowingSibling.new.writer c.write_slash-in-FollowingSibling.ensures c.write_named_axis-in-FollowingSibling.ensures))

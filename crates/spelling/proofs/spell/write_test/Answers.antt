@@ -19,4 +19,4 @@ returns-in-Name c t h =
     let len = c.in-Name.len in
     let short = (sound (text_of q) (path_in (text_of q)) (query_reads q)).short in
     let z = slice at len q.len q.text k.0 in
-    subst (λ x. Emits (test_t x) c.args.writer.now c.write-name.new.writer) (sym (k.1 ∙ ap name z)) (c.write-name.ensures (omega (arith, k.0, short)))
+    subst (λ x. Emits (test_t x) c.args.writer.now c.write_name.new.writer) (sym (k.1 ∙ ap name z)) (c.write_name.ensures (omega (arith, k.0, short)))

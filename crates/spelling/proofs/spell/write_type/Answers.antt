@@ -5,5 +5,5 @@ use Rattle.spelling.proofs.Writes.{emits}
 use Rattle.spelling.proofs.spell.write_type.Goals as goal
 
 pub returns : goal.returns
-returns c = emits (λ us. word c.args.name.now ∷ us) (λ us. symbol LeftParen ∷ symbol RightParen ∷ us) c.args.writer.now c.write-word.new.writer c.write-symbol-2.new.writer c.write-word.ensures
-    (emits (λ us. symbol LeftParen ∷ us) (λ us. symbol RightParen ∷ us) c.write-word.new.writer c.write-symbol.new.writer c.write-symbol-2.new.writer c.write-symbol.ensures c.write-symbol-2.ensures)
+returns c = emits (λ us. word c.args.name.now ∷ us) (λ us. symbol LeftParen ∷ symbol RightParen ∷ us) c.args.writer.now c.write_word.new.writer c.write_symbol-2.new.writer c.write_word.ensures
+    (emits (λ us. symbol LeftParen ∷ us) (λ us. symbol RightParen ∷ us) c.write_word.new.writer c.write_symbol.new.writer c.write_symbol-2.new.writer c.write_symbol.ensures c.write_symbol-2.ensures)

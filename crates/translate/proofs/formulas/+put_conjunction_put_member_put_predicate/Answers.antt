@@ -15,130 +15,130 @@ rank_few (shape.Path s) = omega arith
 rank_few (shape.And l r) = omega arith
 rank_few (shape.Or l r) = omega arith
 
-pub put-conjunction-bounds-table-left : goal.put-conjunction-bounds-table-left
-put-conjunction-bounds-table-left t c = reach_within c.args.table.now c.loop-step.left c.loop-step.invariant.0
+pub put_conjunction-bounds-table-left : goal.put_conjunction-bounds-table-left
+put_conjunction-bounds-table-left t c = reach_within c.args.table.now c.loop-step.left c.loop-step.invariant.0
 
-pub put-conjunction-put-nots-then-requires : goal.put-conjunction-put-nots-then-requires
-put-conjunction-put-nots-then-requires t c =
+pub put_conjunction-put_nots-then-requires : goal.put_conjunction-put_nots-then-requires
+put_conjunction-put_nots-then-requires t c =
     let f = few_nots c.args.table.now c.loop-step.left c.loop-step.invariant.0 in
     let s = c.loop-step.invariant.2.size in
     let r = c.requires.room in
     omega arith
 
-pub put-conjunction-put-asks-requires : goal.put-conjunction-put-asks-requires
-put-conjunction-put-asks-requires t c =
+pub put_conjunction-put_asks-requires : goal.put_conjunction-put_asks-requires
+put_conjunction-put_asks-requires t c =
     let w = path_row c.args.table.now c.loop-step.left c.in-Path.step c.loop-step.invariant.0 c.in-Path.is in
     let n = nots_length (predicate_at c.args.table.now c.loop-step.left).negations in
-    let m = c.put-nots-then.ensures.many in
+    let m = c.put_nots-then.ensures.many in
     let s = c.loop-step.invariant.2.size in
     let l = w.long in
     record { few = c.requires.few; within = w.within; room = omega arith }
 
-pub put-conjunction-returns-in-Path : goal.put-conjunction-returns-in-Path
-put-conjunction-returns-in-Path t c =
+pub put_conjunction-returns-in-Path : goal.put_conjunction-returns-in-Path
+put_conjunction-returns-in-Path t c =
     let w = path_row c.args.table.now c.loop-step.left c.in-Path.step c.loop-step.invariant.0 c.in-Path.is in
-    remains_none {left = code (asks_at c.args.table.now c.in-Path.step)} (remains_less c.loop-step.invariant.2 w.is c.put-nots-then.ensures) c.put-asks.ensures
+    remains_none {left = code (asks_at c.args.table.now c.in-Path.step)} (remains_less c.loop-step.invariant.2 w.is c.put_nots-then.ensures) c.put_asks.ensures
 
-pub put-conjunction-put-nots-then-requires-in-And : goal.put-conjunction-put-nots-then-requires-in-And
-put-conjunction-put-nots-then-requires-in-And t c =
+pub put_conjunction-put_nots-then-requires-in-And : goal.put_conjunction-put_nots-then-requires-in-And
+put_conjunction-put_nots-then-requires-in-And t c =
     let f = few_nots c.args.table.now c.loop-step.left c.loop-step.invariant.0 in
     let s = c.loop-step.invariant.2.size in
     let r = c.requires.room in
     omega arith
 
-pub put-conjunction-put-then-requires : goal.put-conjunction-put-then-requires
-put-conjunction-put-then-requires t c =
+pub put_conjunction-put-then-requires : goal.put_conjunction-put-then-requires
+put_conjunction-put-then-requires t c =
     let w = and_row c.args.table.now c.loop-step.left c.in-And.first c.in-And.second c.loop-step.invariant.0 c.in-And.is in
     let n = nots_length (predicate_at c.args.table.now c.loop-step.left).negations in
-    let m = c.put-nots-then-in-And.ensures.many in
+    let m = c.put_nots-then-in-And.ensures.many in
     let s = c.loop-step.invariant.2.size in
     let l = w.long in
     omega arith
 
-pub put-conjunction-put-member-then-requires : goal.put-conjunction-put-member-then-requires
-put-conjunction-put-member-then-requires t c =
+pub put_conjunction-put_member-then-requires : goal.put_conjunction-put_member-then-requires
+put_conjunction-put_member-then-requires t c =
     let w = and_row c.args.table.now c.loop-step.left c.in-And.first c.in-And.second c.loop-step.invariant.0 c.in-And.is in
     let n = nots_length (predicate_at c.args.table.now c.loop-step.left).negations in
-    let m = c.put-nots-then-in-And.ensures.many in
+    let m = c.put_nots-then-in-And.ensures.many in
     let k = c.put-then.ensures.many in
     let s = c.loop-step.invariant.2.size in
     let l = w.long in
     (omega (arith, w.right_below, c.loop-step.invariant.1), (c.requires.few, (w.right, omega arith)))
 
-pub put-conjunction-loop-step-smaller : goal.put-conjunction-loop-step-smaller
-put-conjunction-loop-step-smaller t c =
+pub put_conjunction-loop-step-smaller : goal.put_conjunction-loop-step-smaller
+put_conjunction-loop-step-smaller t c =
     (and_row c.args.table.now c.loop-step.left c.in-And.first c.in-And.second c.loop-step.invariant.0 c.in-And.is).left_below
 
-pub put-conjunction-loop-step-preserved : goal.put-conjunction-loop-step-preserved
-put-conjunction-loop-step-preserved t c =
+pub put_conjunction-loop-step-preserved : goal.put_conjunction-loop-step-preserved
+put_conjunction-loop-step-preserved t c =
     let w = and_row c.args.table.now c.loop-step.left c.in-And.first c.in-And.second c.loop-step.invariant.0 c.in-And.is in
     let d = rank_few (predicate_at c.args.table.now c.in-And.first).shape in
-    (w.left, omega (arith, w.left-below, c.loop-step.invariant.1, d), remains_less c.loop-step.invariant.2 w.is (adds_more (adds_more c.put-nots-then-in-And.ensures c.put-then.ensures) c.put-member-then.ensures))
+    (w.left, omega (arith, w.left-below, c.loop-step.invariant.1, d), remains_less c.loop-step.invariant.2 w.is (adds_more (adds_more c.put_nots-then-in-And.ensures c.put-then.ensures) c.put_member-then.ensures))
 
-pub put-conjunction-returns-in-Or : goal.put-conjunction-returns-in-Or
-put-conjunction-returns-in-Or t c = remains_none c.loop-step.invariant.2 c.put-predicate.ensures
+pub put_conjunction-returns-in-Or : goal.put_conjunction-returns-in-Or
+put_conjunction-returns-in-Or t c = remains_none c.loop-step.invariant.2 c.put_predicate.ensures
 
-pub put-predicate-bounds-table-left : goal.put-predicate-bounds-table-left
-put-predicate-bounds-table-left t c = reach_within c.args.table.now c.loop-first.left c.loop-first.invariant.0
+pub put_predicate-bounds-table-left : goal.put_predicate-bounds-table-left
+put_predicate-bounds-table-left t c = reach_within c.args.table.now c.loop-first.left c.loop-first.invariant.0
 
-pub put-predicate-put-nots-then-requires : goal.put-predicate-put-nots-then-requires
-put-predicate-put-nots-then-requires t c =
+pub put_predicate-put_nots-then-requires : goal.put_predicate-put_nots-then-requires
+put_predicate-put_nots-then-requires t c =
     let f = few_nots c.args.table.now c.loop-first.left c.loop-first.invariant.0 in
     let s = c.loop-first.invariant.2.size in
     let r = c.requires.room in
     omega arith
 
-pub put-predicate-put-then-requires : goal.put-predicate-put-then-requires
-put-predicate-put-then-requires t c =
+pub put_predicate-put-then-requires : goal.put_predicate-put-then-requires
+put_predicate-put-then-requires t c =
     let w = or_row c.args.table.now c.loop-first.left c.in-Or.first c.in-Or.second c.loop-first.invariant.0 c.in-Or.is in
     let n = nots_length (predicate_at c.args.table.now c.loop-first.left).negations in
-    let m = c.put-nots-then.ensures.many in
+    let m = c.put_nots-then.ensures.many in
     let s = c.loop-first.invariant.2.size in
     let l = w.long in
     omega arith
 
-pub put-predicate-put-conjunction-then-requires : goal.put-predicate-put-conjunction-then-requires
-put-predicate-put-conjunction-then-requires t c =
+pub put_predicate-put_conjunction-then-requires : goal.put_predicate-put_conjunction-then-requires
+put_predicate-put_conjunction-then-requires t c =
     let w = or_row c.args.table.now c.loop-first.left c.in-Or.first c.in-Or.second c.loop-first.invariant.0 c.in-Or.is in
     let n = nots_length (predicate_at c.args.table.now c.loop-first.left).negations in
-    let m = c.put-nots-then.ensures.many in
+    let m = c.put_nots-then.ensures.many in
     let k = c.put-then.ensures.many in
     let s = c.loop-first.invariant.2.size in
     let l = w.long in
     let d = rank_few (predicate_at c.args.table.now c.in-Or.second).shape in
     (omega (arith, w.right_below, c.loop-first.invariant.1, d), (c.requires.few, (w.right, omega arith)))
 
-pub put-predicate-loop-first-smaller : goal.put-predicate-loop-first-smaller
-put-predicate-loop-first-smaller t c =
+pub put_predicate-loop-first-smaller : goal.put_predicate-loop-first-smaller
+put_predicate-loop-first-smaller t c =
     (or_row c.args.table.now c.loop-first.left c.in-Or.first c.in-Or.second c.loop-first.invariant.0 c.in-Or.is).left_below
 
-pub put-predicate-loop-first-preserved : goal.put-predicate-loop-first-preserved
-put-predicate-loop-first-preserved t c =
+pub put_predicate-loop-first-preserved : goal.put_predicate-loop-first-preserved
+put_predicate-loop-first-preserved t c =
     let w = or_row c.args.table.now c.loop-first.left c.in-Or.first c.in-Or.second c.loop-first.invariant.0 c.in-Or.is in
-    (w.left, omega (arith, w.left-below, c.loop-first.invariant.1), remains_less c.loop-first.invariant.2 w.is (adds_more (adds_more c.put-nots-then.ensures c.put-then.ensures) c.put-conjunction-then.ensures))
+    (w.left, omega (arith, w.left-below, c.loop-first.invariant.1), remains_less c.loop-first.invariant.2 w.is (adds_more (adds_more c.put_nots-then.ensures c.put-then.ensures) c.put_conjunction-then.ensures))
 
-pub put-predicate-returns-in-default : goal.put-predicate-returns-in-default
-put-predicate-returns-in-default t c = remains_none c.loop-first.invariant.2 c.put-conjunction.ensures
+pub put_predicate-returns-in-default : goal.put_predicate-returns-in-default
+put_predicate-returns-in-default t c = remains_none c.loop-first.invariant.2 c.put_conjunction.ensures
 
-pub put-member-bounds-table-index : goal.put-member-bounds-table-index
-put-member-bounds-table-index t c = reach_within c.args.table.now c.args.index c.requires.reaching
+pub put_member-bounds-table-index : goal.put_member-bounds-table-index
+put_member-bounds-table-index t c = reach_within c.args.table.now c.args.index c.requires.reaching
 
-pub put-member-put-nots-then-requires : goal.put-member-put-nots-then-requires
-put-member-put-nots-then-requires t c =
+pub put_member-put_nots-then-requires : goal.put_member-put_nots-then-requires
+put_member-put_nots-then-requires t c =
     let f = few_nots c.args.table.now c.args.index c.requires.reaching in
     let r = c.requires.room in
     omega arith
 
-pub put-member-put-asks-requires : goal.put-member-put-asks-requires
-put-member-put-asks-requires t c =
+pub put_member-put_asks-requires : goal.put_member-put_asks-requires
+put_member-put_asks-requires t c =
     let w = path_row c.args.table.now c.args.index c.in-Path.step c.requires.reaching c.in-Path.is in
     let n = nots_length (predicate_at c.args.table.now c.args.index).negations in
-    let m = c.put-nots-then.ensures.many in
+    let m = c.put_nots-then.ensures.many in
     let r = c.requires.room in
     let l = w.long in
     record { few = c.requires.few; within = w.within; room = omega arith }
 
-pub put-member-returns-in-Path : goal.put-member-returns-in-Path
-put-member-returns-in-Path t c =
+pub put_member-returns-in-Path : goal.put_member-returns-in-Path
+put_member-returns-in-Path t c =
     let w = path_row c.args.table.now c.args.index c.in-Path.step c.requires.reaching c.in-Path.is in
-    adds_as (sym w.is) (adds_more c.put-nots-then.ensures c.put-asks.ensures)
+    adds_as (sym w.is) (adds_more c.put_nots-then.ensures c.put_asks.ensures)

@@ -16,29 +16,29 @@ rank (shape.Or l r) = 2
 abbrev pub weight : Table → ℕ → ℕ
 weight q i = 3 * i + rank (predicate_at q i).shape
 
-abbrev pub decreases-put-predicate : goal.decreases-put-predicate
-decreases-put-predicate l = 3 * l.index + 1
+abbrev pub decreases-put_predicate : goal.decreases-put_predicate
+decreases-put_predicate l = 3 * l.index + 1
 
-abbrev pub decreases-put-conjunction : goal.decreases-put-conjunction
-decreases-put-conjunction l = weight l.table.now l.index
+abbrev pub decreases-put_conjunction : goal.decreases-put_conjunction
+decreases-put_conjunction l = weight l.table.now l.index
 
-abbrev pub decreases-put-member : goal.decreases-put-member
-decreases-put-member l = 3 * l.index + 2
+abbrev pub decreases-put_member : goal.decreases-put_member
+decreases-put_member l = 3 * l.index + 2
 
-abbrev pub invariant-put-predicate-loop-first : goal.invariant-put-predicate-loop-first
-invariant-put-predicate-loop-first l =
+abbrev pub invariant-put_predicate-loop-first : goal.invariant-put_predicate-loop-first
+invariant-put_predicate-loop-first l =
     Reaching l.table l.left
     × (l.left ≤ l.index)
     × Remains (code (said l.table l.index)) l.initial.out l.at (code (said l.table l.left)) l.out l.then
 
-abbrev pub decreases-put-predicate-loop-first : goal.decreases-put-predicate-loop-first
-decreases-put-predicate-loop-first l = l.left
+abbrev pub decreases-put_predicate-loop-first : goal.decreases-put_predicate-loop-first
+decreases-put_predicate-loop-first l = l.left
 
-abbrev pub invariant-put-conjunction-loop-step : goal.invariant-put-conjunction-loop-step
-invariant-put-conjunction-loop-step l =
+abbrev pub invariant-put_conjunction-loop-step : goal.invariant-put_conjunction-loop-step
+invariant-put_conjunction-loop-step l =
     Reaching l.table l.left
     × (weight l.table l.left ≤ weight l.table l.index)
     × Remains (code (said l.table l.index)) l.initial.out l.at (code (said l.table l.left)) l.out l.then
 
-abbrev pub decreases-put-conjunction-loop-step : goal.decreases-put-conjunction-loop-step
-decreases-put-conjunction-loop-step l = l.left
+abbrev pub decreases-put_conjunction-loop-step : goal.decreases-put_conjunction-loop-step
+decreases-put_conjunction-loop-step l = l.left

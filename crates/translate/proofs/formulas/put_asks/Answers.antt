@@ -12,5 +12,5 @@ returns c =
     let q = c.args.table.now in
     let i = c.args.step in
     let e : q.inside_count - (i + 1) ≡ state_of q i = omega arith in
-    adds_as (ap (λ w. beginning_code (axis_of w.axis) (q.inside_count - (i + 1))) c.inside-step-asked.ensures ∙ ap (beginning_code (axis_of (step_at inner q i).axis)) e ∙ sym (code_beginning (axis_of (step_at inner q i).axis) (state_of q i)))
-    c.put-beginning.ensures
+    adds_as (ap (λ w. beginning_code (axis_of w.axis) (q.inside_count - (i + 1))) c.inside_step-asked.ensures ∙ ap (beginning_code (axis_of (step_at inner q i).axis)) e ∙ sym (code_beginning (axis_of (step_at inner q i).axis) (state_of q i)))
+    c.put_beginning.ensures

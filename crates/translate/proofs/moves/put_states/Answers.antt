@@ -11,8 +11,8 @@ loop-state-init c =
     let z : 0 ≡ q.outside_count + 1 - (q.outside_count + 1) = omega arith in
     (omega arith, adds_as (ap (λ n. rules_codes (sends q (q.outside_count + 1) n)) z) (adds_none c.args.out.now c.args.at))
 
-pub put-state-then-requires : goal.put-state-then-requires
-put-state-then-requires c =
+pub put_state-then-requires : goal.put_state-then-requires
+put_state-then-requires c =
     let q = c.args.table.now in
     let b = sends_before [] [] q c.loop-state.state q.outside_count (omega arith) c.loop-state.invariant.0 in
     let g = b.1 in
@@ -24,7 +24,7 @@ pub loop-state-preserved : goal.loop-state-preserved
 loop-state-preserved c =
     let q = c.args.table.now in
     let b = sends_before [] [] q c.loop-state.state q.outside_count (omega arith) c.loop-state.invariant.0 in
-    (omega arith, adds_as (sym b.0) (adds_more c.loop-state.invariant.1 c.put-state-then.ensures))
+    (omega arith, adds_as (sym b.0) (adds_more c.loop-state.invariant.1 c.put_state-then.ensures))
 
 pub returns : goal.returns
 returns c =

@@ -9,8 +9,8 @@ put-joined-requires c =
     let r = c.requires.room in
     omega arith
 
-pub put-predicate-requires : goal.put-predicate-requires
-put-predicate-requires c =
+pub put_predicate-requires : goal.put_predicate-requires
+put_predicate-requires c =
     let l = bracket_long c.args.table.now c.args.bracket c.in-Some.index c.in-Some.is in
     let r = c.requires.room in
     let m = c.put-joined.ensures.many in
@@ -18,4 +18,4 @@ put-predicate-requires c =
 
 pub returns-in-Some : goal.returns-in-Some
 returns-in-Some c =
-    adds_as (bracket_is c.args.table.now c.args.bracket c.in-Some.index c.in-Some.is) (adds_more c.put-joined.ensures c.put-predicate.ensures)
+    adds_as (bracket_is c.args.table.now c.args.bracket c.in-Some.index c.in-Some.is) (adds_more c.put-joined.ensures c.put_predicate.ensures)

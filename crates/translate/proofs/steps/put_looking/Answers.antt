@@ -7,4 +7,4 @@ use Rattle.translate.proofs.steps.put_looking.Goals as goal
 pub returns-in-Descendant : goal.returns-in-Descendant
 returns-in-Descendant c =
     adds_as (sym (ap (λ a. looking_code (axis_of a) c.args.state) c.in-Descendant.is))
-    (adds_more (adds_more c.put-joined.ensures c.put-onward-onward.ensures) c.put.ensures)
+    (adds_more (adds_more c.put-joined.ensures c.put_onward-onward.ensures) c.put.ensures)

@@ -9,8 +9,8 @@ put-joined-requires c =
     let r = c.requires.room in
     omega arith
 
-pub put-asks-requires : goal.put-asks-requires
-put-asks-requires c =
+pub put_asks-requires : goal.put_asks-requires
+put_asks-requires c =
     let l = next_long c.args.table.now c.args.next c.in-Some.index c.in-Some.is in
     let r = c.requires.room in
     let m = c.put-joined.ensures.many in
@@ -18,4 +18,4 @@ put-asks-requires c =
 
 pub returns-in-Some : goal.returns-in-Some
 returns-in-Some c =
-    adds_as (next_is c.args.table.now c.args.next c.in-Some.index c.in-Some.is) (adds_more c.put-joined.ensures c.put-asks.ensures)
+    adds_as (next_is c.args.table.now c.args.next c.in-Some.index c.in-Some.is) (adds_more c.put-joined.ensures c.put_asks.ensures)

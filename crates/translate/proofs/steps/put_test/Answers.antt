@@ -5,8 +5,8 @@ use Rattle.translation.proofs.Written.{adds_as}
 use Rattle.translation.proofs.Parts.{part_of_front, element_is, text_is, node_is, name_is, name_good}
 use Rattle.translate.proofs.steps.put_test.Goals as goal
 
-pub put-element-requires : goal.put-element-requires
-put-element-requires c =
+pub put_element-requires : goal.put_element-requires
+put_element-requires c =
     let l = ap length (element_is c.args.names.now (text_in c.args.query.now) c.args.test c.in-Element.is) in
     let r = c.requires.room in
     omega arith
@@ -23,14 +23,14 @@ put-requires-in-Node c =
     let r = c.requires.room in
     omega arith
 
-pub put-named-requires : goal.put-named-requires
-put-named-requires c =
+pub put_named-requires : goal.put_named-requires
+put_named-requires c =
     let l = ap length (name_is c.args.names.now (text_in c.args.query.now) c.args.test c.in-Name.from c.in-Name.len c.in-Name.is) in
     let r = c.requires.room in
     omega arith
 
 pub returns-in-Element : goal.returns-in-Element
-returns-in-Element c = adds_as (element_is c.args.names.now (text_in c.args.query.now) c.args.test c.in-Element.is) c.put-element.ensures
+returns-in-Element c = adds_as (element_is c.args.names.now (text_in c.args.query.now) c.args.test c.in-Element.is) c.put_element.ensures
 
 pub returns-in-Text : goal.returns-in-Text
 returns-in-Text c = adds_as (text_is c.args.names.now (text_in c.args.query.now) c.args.test c.in-Text.is) c.put.ensures
@@ -50,5 +50,5 @@ returns-in-Name c =
     let q = c.args.query.now in
     let g = name_good c.args.names.now (text_in q) c.args.test c.in-Name.from c.in-Name.len c.in-Name.is c.requires.good in
     let w : c.part.result.now ≡ take c.in-Name.len (drop c.in-Name.from (text_in q)) = c.part.ensures ∙ part_of_front c.in-Name.from c.in-Name.len q.len q.text g in
-    let e = c.label-of-label.ensures.looked ∙ ap (label_of c.args.names.now) w in
-    adds_as (ap (λ x. 0x10 ∷ 2 ∷ 0x11 ∷ x / 256 ∷ x % 256 ∷ 0x18 ∷ []) e ∙ name_is c.args.names.now (text_in q) c.args.test c.in-Name.from c.in-Name.len c.in-Name.is) c.put-named.ensures
+    let e = c.label_of-label.ensures.looked ∙ ap (label_of c.args.names.now) w in
+    adds_as (ap (λ x. 0x10 ∷ 2 ∷ 0x11 ∷ x / 256 ∷ x % 256 ∷ 0x18 ∷ []) e ∙ name_is c.args.names.now (text_in q) c.args.test c.in-Name.from c.in-Name.len c.in-Name.is) c.put_named.ensures

@@ -4,8 +4,8 @@ use Rattle.shape.proofs.Bytes.{bits_length}
 use Rattle.growth.proofs.Room.{started}
 use Rattle.feed.proofs.types.Growing.begin.Goals as goal
 
-pub write-bit-requires : goal.write-bit-requires
-write-bit-requires c =
+pub write_bit-requires : goal.write_bit-requires
+write_bit-requires c =
     let long = bits_length c.args.bits.now in
-    let r = started (bits_of c.args.bits.now) c.args.labels.now (sym c.in-ok-root-room.ensures) in
+    let r = started (bits_of c.args.bits.now) c.args.labels.now (sym c.in-ok-root_room.ensures) in
     omega arith

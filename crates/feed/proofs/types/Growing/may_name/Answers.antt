@@ -23,13 +23,13 @@ shorter k xs s a b c d = grind (arith, nat_tests)
 fresh : (k : ℕ) (xs : List (List ℕ)) (s : List ℕ) → k < 512 → true ≡ is_name s → false ≡ holds_name (take k xs) s → k < length xs → Ok tt ≡ name_check k xs s
 fresh k xs s a b c d = grind (arith, nat_tests)
 
-pub returns-then-holds-name : goal.returns-then-holds-name
-returns-then-holds-name c =
+pub returns-then-holds_name : goal.returns-then-holds_name
+returns-then-holds_name c =
     let k = c.args.self.now.names in
     let xs = c.args.names.now in
     let s = c.args.slot.now in
     let known : c.min-known.result - 0 ≡ min k (length xs) = omega (arith, c.min-known.ensures) in
-    repeated k xs s (omega arith) c.if-not-is-name.ensures.tested (c.if-holds-name.ensures ∙ ap (λ (l : List (List ℕ)). holds_name l s) (take_min k (c.min-known.result - 0) xs known))
+    repeated k xs s (omega arith) c.if-not-is_name.ensures.tested (c.if-holds_name.ensures ∙ ap (λ (l : List (List ℕ)). holds_name l s) (take_min k (c.min-known.result - 0) xs known))
 
 pub returns-then-k-names : goal.returns-then-k-names
 returns-then-k-names c =
@@ -37,7 +37,7 @@ returns-then-k-names c =
     let xs = c.args.names.now in
     let s = c.args.slot.now in
     let known : c.min-known.result - 0 ≡ min k (length xs) = omega (arith, c.min-known.ensures) in
-    shorter k xs s (omega arith) c.if-not-is-name.ensures.tested (c.if-holds-name.ensures ∙ ap (λ (l : List (List ℕ)). holds_name l s) (take_min k (c.min-known.result - 0) xs known)) c.if-k-names.true
+    shorter k xs s (omega arith) c.if-not-is_name.ensures.tested (c.if-holds_name.ensures ∙ ap (λ (l : List (List ℕ)). holds_name l s) (take_min k (c.min-known.result - 0) xs known)) c.if-k-names.true
 
 pub returns : goal.returns
 returns c =
@@ -45,4 +45,4 @@ returns c =
     let xs = c.args.names.now in
     let s = c.args.slot.now in
     let known : c.min-known.result - 0 ≡ min k (length xs) = omega (arith, c.min-known.ensures) in
-    fresh k xs s (omega arith) c.if-not-is-name.ensures.tested (c.if-holds-name.ensures ∙ ap (λ (l : List (List ℕ)). holds_name l s) (take_min k (c.min-known.result - 0) xs known)) c.if-k-names.false
+    fresh k xs s (omega arith) c.if-not-is_name.ensures.tested (c.if-holds_name.ensures ∙ ap (λ (l : List (List ℕ)). holds_name l s) (take_min k (c.min-known.result - 0) xs known)) c.if-k-names.false

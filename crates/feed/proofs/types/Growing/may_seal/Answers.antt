@@ -4,8 +4,8 @@ use Rattle.shape.specs.Bits.{bits_of}
 use Rattle.shape.proofs.Bytes.{bits_length}
 use Rattle.feed.proofs.types.Growing.may_seal.Goals as goal
 
-pub returns-then-bytes-for-bits : goal.returns-then-bytes-for-bits
-returns-then-bytes-for-bits c =
+pub returns-then-bytes_for-bits : goal.returns-then-bytes_for-bits
+returns-then-bytes_for-bits c =
     let long = bits_length c.args.bits.now in
     let paired = c.args.self.now.paired in
     grind (arith, nat_tests)

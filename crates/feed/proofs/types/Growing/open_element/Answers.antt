@@ -7,8 +7,8 @@ use Rattle.growth.specs.Steps.{Fed, room, shut_check, shut, begin_check, begun}
 use Rattle.growth.proofs.Room.{roomy}
 use Rattle.feed.proofs.types.Growing.open_element.Goals as goal
 
-pub write-bit-requires : goal.write-bit-requires
-write-bit-requires c =
+pub write_bit-requires : goal.write_bit-requires
+write_bit-requires c =
     let long = bits_length c.args.bits.now in
     let r = roomy (fed c.args.self.now c.args.bits.now c.args.labels.now) (sym c.in-ok-room.ensures) in
     omega arith

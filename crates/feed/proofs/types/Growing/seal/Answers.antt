@@ -10,4 +10,4 @@ clear-requires c =
     let long = bits_length c.args.bits.now in
     let paired = c.args.self.paired in
     let r = seals (fed c.args.self c.args.bits.now []) (length c.args.directory.now) (sym c.in-default.ensures) in
-    record { order = omega (arith, c.bytes-for.ensures); within = omega (arith, c.bytes-for.ensures) }
+    record { order = omega (arith, c.bytes_for.ensures); within = omega (arith, c.bytes_for.ensures) }

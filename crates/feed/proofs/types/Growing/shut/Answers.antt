@@ -5,8 +5,8 @@ use Rattle.feed.specs.Fed.{fed}
 use Rattle.growth.proofs.Room.{shuts}
 use Rattle.feed.proofs.types.Growing.shut.Goals as goal
 
-pub write-bit-requires : goal.write-bit-requires
-write-bit-requires c =
+pub write_bit-requires : goal.write_bit-requires
+write_bit-requires c =
     let long = bits_length c.args.bits.now in
-    let r = shuts (fed c.args.self.now c.args.bits.now []) (sym c.in-ok-may-shut.ensures) in
+    let r = shuts (fed c.args.self.now c.args.bits.now []) (sym c.in-ok-may_shut.ensures) in
     omega arith

@@ -5,5 +5,5 @@ use Rattle.parens.proofs.paren_tree.ParenTree.load.Goals as goal
 
 pub invariant-of-self : goal.invariant-of-self
 invariant-of-self c =
-    let t = c.if-not-of-tree.ensures.0 refl in
+    let t = c.if-not-of_tree.ensures.0 refl in
     (tree_few _ _ _ _ t, (t.each_label, (t.each_byte, (of_lawful _ t.lawful, (t.count, (t.shape, (t.blocks, tt)))))))

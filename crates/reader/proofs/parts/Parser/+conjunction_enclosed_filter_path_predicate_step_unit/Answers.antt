@@ -128,26 +128,26 @@ path-returns-in-err-after t c =
     let l = c.args.levels in
     let e = c.args.self.now in
     let g = walk_start w l c.lead-before.result e c.lead-before.new.reader c.requires.fit c.requires.starts c.lead-before.ensures in
-    let d = c.loop-after.invariant.1 e (start (slash_of c.lead-before.result)) (subst (λ s. Walked w l c.lead-before.result s e (with e c.lead-before.new.reader) (start (slash_of c.lead-before.result))) (sym c.is-slash-slash.ensures) g) in
+    let d = c.loop-after.invariant.1 e (start (slash_of c.lead-before.result)) (subst (λ s. Walked w l c.lead-before.result s e (with e c.lead-before.new.reader) (start (slash_of c.lead-before.result))) (sym c.is_slash-slash.ensures) g) in
     let b = err_from_is_err_and c.from-residual.result c.from-residual.ensures.1 in
     exit (λ r. PathTells w l r e c.step.new.self) c.from-residual.result c.in-err-after.field-0.0 b b.2
     (walk_err w l c.loop-after.before c.loop-after.slash e c.loop-after.self c.step.new.self d.0 d.1 c.in-err-after.field-0.0 c.in-err-after.ensures)
 
-pub path-returns-then-not-is-slash : goal.path-returns-then-not-is-slash
-path-returns-then-not-is-slash t c =
+pub path-returns-then-not-is_slash : goal.path-returns-then-not-is_slash
+path-returns-then-not-is_slash t c =
     let w = where_of c.args.region in
     let l = c.args.levels in
     let e = c.args.self.now in
     let g = walk_start w l c.lead-before.result e c.lead-before.new.reader c.requires.fit c.requires.starts c.lead-before.ensures in
-    let d = c.loop-after.invariant.1 e (start (slash_of c.lead-before.result)) (subst (λ s. Walked w l c.lead-before.result s e (with e c.lead-before.new.reader) (start (slash_of c.lead-before.result))) (sym c.is-slash-slash.ensures) g) in
-    walk_done w l c.loop-after.before c.loop-after.slash e c.loop-after.self c.step.new.self d.0 d.1 c.in-ok-after.after (sym c.is-slash.ensures ∙ c.if-not-is-slash.true) c.in-ok-after.ensures
+    let d = c.loop-after.invariant.1 e (start (slash_of c.lead-before.result)) (subst (λ s. Walked w l c.lead-before.result s e (with e c.lead-before.new.reader) (start (slash_of c.lead-before.result))) (sym c.is_slash-slash.ensures) g) in
+    walk_done w l c.loop-after.before c.loop-after.slash e c.loop-after.self c.step.new.self d.0 d.1 c.in-ok-after.after (sym c.is_slash.ensures ∙ c.if-not-is_slash.true) c.in-ok-after.ensures
 
 pub path-loop-after-preserved : goal.path-loop-after-preserved
 path-loop-after-preserved t c =
     let w = where_of c.args.region in
     let l = c.args.levels in (
       step_fit w l c.loop-after.before c.loop-after.slash c.in-ok-after.after c.loop-after.self c.step.new.self c.loop-after.invariant.0 c.in-ok-after.ensures,
-      λ p b g. let d = c.loop-after.invariant.1 p b g in walk_on w l c.loop-after.before c.loop-after.slash p c.loop-after.self c.step.new.self d.0 d.1 c.in-ok-after.after (sym c.is-slash.ensures ∙ c.if-not-is-slash.false) c.in-ok-after.ensures,
+      λ p b g. let d = c.loop-after.invariant.1 p b g in walk_on w l c.loop-after.before c.loop-after.slash p c.loop-after.self c.step.new.self d.0 d.1 c.in-ok-after.after (sym c.is_slash.ensures ∙ c.if-not-is_slash.false) c.in-ok-after.ensures,
     )
 
 pub predicate-loop-self-init : goal.predicate-loop-self-init
@@ -200,9 +200,9 @@ pub step-returns : goal.step-returns
 step-returns t c =
     let w = where_of c.args.region in
     let p = c.args.self.now in
-    let h = subst (λ f. HeadTells w f (Ok c.in-ok-head.head) p c.head.new.self) c.is-far.ensures c.in-ok-head.ensures in
+    let h = subst (λ f. HeadTells w f (Ok c.in-ok-head.head) p c.head.new.self) c.is_far.ensures c.in-ok-head.ensures in
     let g = c.in-ok-bracket.ensures in
-    step_read w c.args.levels c.args.before c.args.slash c.lead-after.result p c.head.new.self c.filter.new.self c.lead-after.new.reader c.write-step.new.table c.in-ok-head.head h.0 g.0 c.in-ok-bracket.bracket c.next-step-next.result c.next-index-index.result c.requires.fit h.1 g.1 c.lead-after.ensures c.next-index-index.ensures c.next-step-next.ensures c.write-step.ensures
+    step_read w c.args.levels c.args.before c.args.slash c.lead-after.result p c.head.new.self c.filter.new.self c.lead-after.new.reader c.write_step.new.table c.in-ok-head.head h.0 g.0 c.in-ok-bracket.bracket c.next_step-next.result c.next_index-index.result c.requires.fit h.1 g.1 c.lead-after.ensures c.next_index-index.ensures c.next_step-next.ensures c.write_step.ensures
 
 pub unit-returns-in-Some : goal.unit-returns-in-Some
 unit-returns-in-Some t c = not_unit c.args.levels c.in-Some.at c.in-ok-inner.inner c.args.self.now c.enclosed.new.self c.negation.new.self c.negate.new.table c.requires.fit (omega (arith, c.ranges.levels.fits)) c.in-Some.ensures c.in-ok-inner.ensures c.negate.ensures

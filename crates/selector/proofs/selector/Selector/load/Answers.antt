@@ -17,8 +17,8 @@ returns g c =
     let p = c.args.program.now in
     let s = state_of c.args.self.now in
     let so : accepted p ≡ true = ok_so (accepted p) c.in-default.field-0 c.in-default.ensures.exact in
-    let same : c.copy-from-slice.new.self ≡ p = c.copy-from-slice.ensures.after in
-    let held : take (length p) _ ≡ p = take_at c.copy-from-slice.new.self _ (length p) (ap length same) ∙ same in
+    let same : c.copy_from_slice.new.self ≡ p = c.copy_from_slice.ensures.after in
+    let held : take (length p) _ ≡ p = take_at c.copy_from_slice.new.self _ (length p) (ap length same) ∙ same in
     record {
       answer = sym (ap (λ (b : Bool). outcome (unless_so b bad_program) tt) so);
       state =
@@ -32,9 +32,9 @@ invariant-of-self g c =
     let p = c.args.program.now in
     let so : accepted p ≡ true = ok_so (accepted p) c.in-default.field-0 c.in-default.ensures.exact in
     let short : length p ≤ 2048 = leb-true (length p) 2048 (and_parts (leb (length p) 2048) (thence (surveyed p) (λ n. all_keep n (commands_of p))) so).0 in
-    let same : c.copy-from-slice.new.self ≡ p = c.copy-from-slice.ensures.after in
-    let held : take (length p) _ ≡ p = take_at c.copy-from-slice.new.self _ (length p) (ap length same) ∙ same in
-    (short, (c.rules-start-self.ensures.inside, (c.rules-start-self.ensures.exact ∙ ap rules_at (sym held), (omega arith, tt))))
+    let same : c.copy_from_slice.new.self ≡ p = c.copy_from_slice.ensures.after in
+    let held : take (length p) _ ≡ p = take_at c.copy_from_slice.new.self _ (length p) (ap length same) ∙ same in
+    (short, (c.rules_start-self.ensures.inside, (c.rules_start-self.ensures.exact ∙ ap rules_at (sym held), (omega arith, tt))))
 
 pub returns-in-Err : goal.returns-in-Err
 returns-in-Err g c =

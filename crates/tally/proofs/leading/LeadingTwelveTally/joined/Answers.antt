@@ -1,4 +1,4 @@
-use Rattle.std.proofs.Common.{◌≡◌, ℕ, ◌+◌, ◌<◌, ◌≤◌, Bool, ◌||◌, ltb, List, [], ◌++◌, length, get_or, take, sym, ap, ◌∙◌, subst, append_nil, arith, length-set, length-take, take_all, rules}
+use Rattle.std.proofs.Common.{◌≡◌, ℕ, ◌+◌, ◌<◌, ◌≤◌, Bool, ◌||◌, ltb, List, [], ◌++◌, length, get_or, take, sym, ap, ◌∙◌, subst, append-nil, arith, length-set, length-take, take_all, rules}
 use Rattle.tally.proofs.Steps.{step_fits, step_full, flag_fits, flag_full, flag_none, both}
 use Rattle.tally.proofs.leading.LeadingTwelveTally.joined.Goals as goal
 use Rattle.tally.proofs.leading.LeadingTwelveTally.joined.Goals.{then-len-lt12, else-len-lt12}
@@ -7,7 +7,7 @@ pub loop-i-init : goal.loop-i-init
 loop-i-init c =
     let a = take c.args.self.len c.args.self.nodes in
     let few : length a ≤ 12 = omega (arith, length-take c.args.self.len c.args.self.nodes, c.args.self.ok) in
-    (search rules, omega (arith, c.args.self.ok), sym (ap (take 12) (append_nil a) ∙ take_all 12 a few), flag_none (c.args.self.more || c.args.other.more) (c.args.self.len + 0) (omega (arith, c.args.self.ok)))
+    (search rules, omega (arith, c.args.self.ok), sym (ap (take 12) (append-nil a) ∙ take_all 12 a few), flag_none (c.args.self.more || c.args.other.more) (c.args.self.len + 0) (omega (arith, c.args.self.ok)))
 
 pub loop-i-preserved : goal.loop-i-preserved
 loop-i-preserved c =
