@@ -57,7 +57,7 @@ impl<K: Key, V: Copy + Drop> Memo<K, V> {
 
     // The answer kept under the key, if its place still has it.
     pub fn find(&self, key: K) -> Option<V>
-        ensures { Finds (slice_index_or self.now.places (place key) None) key result }
+        ensures { Finds (slice_index_or self.now.places (K.place key) None) key result }
     {
         let kept = self.places[key.place()];
         match kept {
@@ -74,7 +74,7 @@ impl<K: Key, V: Copy + Drop> Memo<K, V> {
 
     // Keeps the answer at its key's place.
     pub fn keep(&mut self, key: K, value: V)
-        ensures { self.new.places ≡ slice_set self.old.places (place key) (Some (record { key = key; value = value })) }
+        ensures { self.new.places ≡ slice_set self.old.places (K.place key) (Some (record { key = key; value = value })) }
     {
         self.places[key.place()] = Some(Known { key, value });
     }

@@ -10,9 +10,9 @@ use tree::fault::Fault;
 
 // Writes a tree's stored rows to the front of a buffer: the number of its nodes, or a refusal that changes nothing.
 pub fn write_rows<T: Tree>(tree: &T, out: &mut [StoredRow]) -> Result<usize, Fault>
-    ensures answers { result ≡ write_answer (rows tree.now) out.old }
-    ensures leaves { out.new ≡ written (rows tree.now) out.old }
-    ensures reloads { Reloads (rows tree.now) out.new result }
+    ensures answers { result ≡ write_answer (T.rows tree.now) out.old }
+    ensures leaves { out.new ≡ written (T.rows tree.now) out.old }
+    ensures reloads { Reloads (T.rows tree.now) out.new result }
 {
     let n = tree.count();
     if out.len() < n {
@@ -27,10 +27,10 @@ pub fn write_rows<T: Tree>(tree: &T, out: &mut [StoredRow]) -> Result<usize, Fau
 
 // The stored row of node v, where those before it have been written.
 fn row_of<T: Tree>(tree: &T, out: &[StoredRow], v: usize) -> StoredRow
-    requires within { v < count_of (rows tree.now) }
+    requires within { v < count_of (T.rows tree.now) }
     requires room { v ≤ length out.now }
-    requires known { (j : ℕ) → j < v → at out.now j ≡ stored_at (rows tree.now) j }
-    ensures { result ≡ stored_at (rows tree.now) v }
+    requires known { (j : ℕ) → j < v → at out.now j ≡ stored_at (T.rows tree.now) j }
+    ensures { result ≡ stored_at (T.rows tree.now) v }
 {
     let label = tree.label(v);
     let size = tree.size(v) as u16;
@@ -52,10 +52,10 @@ fn row_of<T: Tree>(tree: &T, out: &[StoredRow], v: usize) -> StoredRow
 // The parent of node v: the last node before it whose subtree goes on at v.
 fn parent<T: Tree>(tree: &T, out: &[StoredRow], v: usize) -> usize
     requires after { 0 < v }
-    requires within { v < count_of (rows tree.now) }
+    requires within { v < count_of (T.rows tree.now) }
     requires room { v ≤ length out.now }
-    requires known { (j : ℕ) → j < v → at out.now j ≡ stored_at (rows tree.now) j }
-    ensures { result + distance_of (rows tree.now) v ≡ v }
+    requires known { (j : ℕ) → j < v → at out.now j ≡ stored_at (T.rows tree.now) j }
+    ensures { result + distance_of (T.rows tree.now) v ≡ v }
 {
     let mut q = v - 1;
     while q + tree.size(q) <= v {

@@ -9,4 +9,4 @@ returns-in-err-reach c =
     record { sees = rw (p.1, p.2) (sees c.args.self.now.text.now c.args.self.now.place (Err c.in-err-reach.field-0.0) c.in-err-reach.ensures.value tt); stays = search rules }
 
 pub returns : goal.returns
-returns c = record { sees = sees c.args.self.now.text.now c.args.self.now.place (Ok c.in-ok-reach.reach) c.in-ok-reach.ensures.value c.in-ok-reach.ensures.ends; stays = search rules }
+returns c = record { sees = sees c.args.self.now.text.now c.args.self.now.place (Ok c.in_ok-reach.reach) c.in_ok-reach.ensures.value c.in_ok-reach.ensures.ends; stays = search rules }

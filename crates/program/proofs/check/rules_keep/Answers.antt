@@ -31,7 +31,7 @@ loop-command-preserved c =
 pub returns : goal.returns
 returns c =
     let l = c.loop-command in
-    sym (ap (λ (cs : List Command). rules_keep c.args.counts cs l.at) (commands_none l.bytes.now (sym c.in-default.ensures))) ∙ l.invariant.1
+    sym (ap (λ (cs : List Command). rules_keep c.args.counts cs l.at) (commands_none l.bytes.now (sym c.in_default.ensures))) ∙ l.invariant.1
 
 pub returns-then-ends : goal.returns-then-ends
 returns-then-ends c =

@@ -55,7 +55,7 @@ pub returns-then-bytes-eq0 : goal.returns-then-bytes-eq0
 returns-then-bytes-eq0 c =
     let l = c.loop-command in
     let cs = commands_of c.args.program.now in
-    let e = commands_none l.bytes.now (sym c.in-default.ensures) in
+    let e = commands_none l.bytes.now (sym c.in_default.ensures) in
     let whole : widths cs ≡ length c.args.program.now = omega (arith, ap widths e, l.invariant.2, c.if-bytes-eq0.true) in
     let a : l.deciding ≡ summed defined cs = omega (arith, ap (summed defined) e, l.invariant.0) in
     let b : l.sending ≡ summed closed cs = omega (arith, ap (summed closed) e, l.invariant.1) in
@@ -67,5 +67,5 @@ pub returns-else-bytes-eq0 : goal.returns-else-bytes-eq0
 returns-else-bytes-eq0 c =
     let l = c.loop-command in
     let cs = commands_of c.args.program.now in
-    let e = commands_none l.bytes.now (sym c.in-default.ensures) in
+    let e = commands_none l.bytes.now (sym c.in_default.ensures) in
     sym (cond-false (eqb (widths cs) (length c.args.program.now)) (Some (counts cs)) None (ne_eqb _ _ (λ k. c.if-bytes-eq0.false (omega (arith, k, ap widths e, l.invariant.2)))))

@@ -19,4 +19,4 @@ loop-command-preserved c =
 pub returns : goal.returns
 returns c =
     let l = c.loop-command in
-    sym (ap (λ (cs : List Command). asked cs l.asked) (commands_none l.bytes.now (sym c.in-default.ensures))) ∙ l.invariant
+    sym (ap (λ (cs : List Command). asked cs l.asked) (commands_none l.bytes.now (sym c.in_default.ensures))) ∙ l.invariant

@@ -35,7 +35,7 @@ returns-in-default-command c =
 pub returns : goal.returns
 returns c =
     let l = c.loop-command in
-    sym (ap (λ (cs : List Command). decide c.args.node cs l.stack l.word l.state) (commands_none l.bytes.now (sym c.in-default.ensures))) ∙ l.invariant.1
+    sym (ap (λ (cs : List Command). decide c.args.node cs l.stack l.word l.state) (commands_none l.bytes.now (sym c.in_default.ensures))) ∙ l.invariant.1
 
 pub loop-command-smaller-in-Value : goal.loop-command-smaller-in-Value
 loop-command-smaller-in-Value c = taken_less c.loop-command.bytes.now c.in-Some.command c.in-Some.rest.now (sym c.in-Some.ensures)

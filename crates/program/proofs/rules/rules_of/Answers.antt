@@ -29,5 +29,5 @@ returns-then-not-is_deciding c =
 pub returns : goal.returns
 returns c =
     let l = c.loop-command in
-    let e = commands_none l.bytes.now (sym c.in-default.ensures) in
+    let e = commands_none l.bytes.now (sym c.in_default.ensures) in
     e ∙ sym (ap after_deciding e) ∙ l.invariant

@@ -56,7 +56,7 @@ returns-then-not-is_deciding c =
 pub returns : goal.returns
 returns c =
     let l = c.loop-command in
-    let e = commands_none (drop l.at c.args.program.now) (sym (c.in-default.ensures ∙ ap taken c.rest_from.ensures)) in
+    let e = commands_none (drop l.at c.args.program.now) (sym (c.in_default.ensures ∙ ap taken c.rest_from.ensures)) in
     let first : rules_at (drop l.at c.args.program.now) ≡ 0 = ap lead e in
     record {
       inside = l.invariant.0;

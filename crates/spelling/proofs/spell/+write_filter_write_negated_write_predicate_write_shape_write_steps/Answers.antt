@@ -14,13 +14,13 @@ write_filter-returns-else-inner-limit t c f a d h ha hc hl = filter_past (text_o
 pub write_steps-loop-from-preserved : goal.write_steps-loop-from-preserved
 write_steps-loop-from-preserved t c ps s a d h hc hl =
     let g = c.loop-from.invariant ps s a d h hc hl in
-    let k = step_next (text_of c.args.query.now) c.args.query.now.table (where_in c.args.inside) c.loop-from.from c.later_from.result c.in-Some.index c.args.limit c.loop-from.led c.step_at-step.result g.0 g.1 g.2 g.3 c.loop-from.writer c.write_axis.new.writer c.write_test.new.writer c.write_filter.new.writer c.in-Some.is c.step_at-step.ensures g.4 g.5 hl c.write_axis.ensures c.write_test.ensures c.write_filter.ensures c.later_from.ensures in
+    let k = step_next (text_of c.args.query.now) c.args.query.now.table (where_in c.args.inside) c.loop-from.from c.later-from.result c.in-Some.index c.args.limit c.loop-from.led c.step_at-step.result g.0 g.1 g.2 g.3 c.loop-from.writer c.write_axis.new.writer c.write_test.new.writer c.write_filter.new.writer c.in-Some.is c.step_at-step.ensures g.4 g.5 hl c.write_axis.ensures c.write_test.ensures c.write_filter.ensures c.later-from.ensures in
     (k.0, k.1, k.2, k.3, k.4, k.5, λ us x. let e = g.6 us x in e ∙ k.6 us (subst (λ l. length l ≤ 512) e x))
 
 pub write_steps-returns : goal.write_steps-returns
 write_steps-returns t c ps s a d h hc hl us x =
     let g = c.loop-from.invariant ps s a d h hc hl in
-    g.6 us x ∙ step_last (text_of c.args.query.now) c.args.query.now.table (where_in c.args.inside) c.loop-from.from c.loop-from.led g.0 g.1 g.2 g.3 c.loop-from.writer c.in-default.is g.4 us
+    g.6 us x ∙ step_last (text_of c.args.query.now) c.args.query.now.table (where_in c.args.inside) c.loop-from.from c.loop-from.led g.0 g.1 g.2 g.3 c.loop-from.writer c.in_default.is g.4 us
 
 pub write_predicate-returns : goal.write_predicate-returns
 write_predicate-returns t c x a d e lt ha h =

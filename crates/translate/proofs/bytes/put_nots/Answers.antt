@@ -9,4 +9,4 @@ loop-i-init c = (omega arith, adds_none c.args.out.now c.args.at)
 pub loop-i-preserved : goal.loop-i-preserved
 loop-i-preserved c =
     let e = c.put-then.ensures.many in
-    (omega arith, adds_as (ap nots (sym (add-one c.loop-i.-i))) (adds_more c.loop-i.invariant.1 c.put-then.ensures))
+    (omega arith, adds_as (ap nots (sym (add-one c.loop-i._i))) (adds_more c.loop-i.invariant.1 c.put-then.ensures))

@@ -73,7 +73,7 @@ pub put_conjunction-loop-step-preserved : goal.put_conjunction-loop-step-preserv
 put_conjunction-loop-step-preserved t c =
     let w = and_row c.args.table.now c.loop-step.left c.in-And.first c.in-And.second c.loop-step.invariant.0 c.in-And.is in
     let d = rank_few (predicate_at c.args.table.now c.in-And.first).shape in
-    (w.left, omega (arith, w.left-below, c.loop-step.invariant.1, d), remains_less c.loop-step.invariant.2 w.is (adds_more (adds_more c.put_nots-then-in-And.ensures c.put-then.ensures) c.put_member-then.ensures))
+    (w.left, omega (arith, w.left_below, c.loop-step.invariant.1, d), remains_less c.loop-step.invariant.2 w.is (adds_more (adds_more c.put_nots-then-in-And.ensures c.put-then.ensures) c.put_member-then.ensures))
 
 pub put_conjunction-returns-in-Or : goal.put_conjunction-returns-in-Or
 put_conjunction-returns-in-Or t c = remains_none c.loop-step.invariant.2 c.put_predicate.ensures
@@ -115,7 +115,7 @@ put_predicate-loop-first-smaller t c =
 pub put_predicate-loop-first-preserved : goal.put_predicate-loop-first-preserved
 put_predicate-loop-first-preserved t c =
     let w = or_row c.args.table.now c.loop-first.left c.in-Or.first c.in-Or.second c.loop-first.invariant.0 c.in-Or.is in
-    (w.left, omega (arith, w.left-below, c.loop-first.invariant.1), remains_less c.loop-first.invariant.2 w.is (adds_more (adds_more c.put_nots-then.ensures c.put-then.ensures) c.put_conjunction-then.ensures))
+    (w.left, omega (arith, w.left_below, c.loop-first.invariant.1), remains_less c.loop-first.invariant.2 w.is (adds_more (adds_more c.put_nots-then.ensures c.put-then.ensures) c.put_conjunction-then.ensures))
 
 pub put_predicate-returns-in-default : goal.put_predicate-returns-in-default
 put_predicate-returns-in-default t c = remains_none c.loop-first.invariant.2 c.put_conjunction.ensures

@@ -7,4 +7,4 @@ use Rattle.translate.proofs.moves.put_keeping.Goals as goal
 pub returns-in-Descendant : goal.returns-in-Descendant
 returns-in-Descendant c =
     adds_as (sym (ap (λ a. keeping_code (axis_of a) c.args.everywhere c.args.state) c.in-Descendant.is))
-    (adds_more (adds_more c.put_onward.ensures c.put_down-down.ensures) c.put.ensures)
+    (adds_more (adds_more c.put-onward.ensures c.put_down-down.ensures) c.put.ensures)
