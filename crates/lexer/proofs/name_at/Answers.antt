@@ -3,5 +3,5 @@ use Rattle.std.proofs.lemmas.List.Sums.{prefix_len-le-length}
 use Rattle.grammar.specs.Bytes.{named}
 use Rattle.lexer.proofs.name_at.Goals as goal
 
-pub slice-bounds-result-end : goal.slice-bounds-result-end
-slice-bounds-result-end c = omega (arith, prefix_len-le-length named (drop c.args.at c.args.text.now), length-drop c.args.at c.args.text.now)
+pub slice_bounds-result-end : goal.slice_bounds-result-end
+slice_bounds-result-end c = omega (arith, prefix_len-le-length named (drop c.args.at c.args.text.now), length-drop c.args.at c.args.text.now)

@@ -35,7 +35,7 @@ returns-then-work-n g c =
     let b = c.args.program.now in
     let s = state_of c.args.selector.now in
     let ws = c.args.work.now in
-    let ok = ok_so (accepted b) c.in-default.field-0 c.in-default.ensures.exact in
+    let ok = ok_so (accepted b) c.in_default.field-0 c.in_default.ensures.exact in
     let e = asks_work rows b ws ok (omega arith) in
     record {
       answer = sym (ap (λ (o : Option Fault). outcome o tt) e);
@@ -50,7 +50,7 @@ returns g c =
     let b = c.args.program.now in
     let s = state_of c.args.selector.now in
     let ws = c.args.work.now in
-    let ok = ok_so (accepted b) c.in-default.field-0 c.in-default.ensures.exact in
+    let ok = ok_so (accepted b) c.in_default.field-0 c.in_default.ensures.exact in
     let n = c.count-n.ensures in
     let fit : count_of rows ≤ length ws = omega arith in
     let s1 = state_of c.load.new.self in

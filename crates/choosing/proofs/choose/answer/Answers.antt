@@ -48,7 +48,7 @@ returns c =
           rest = refl;
         },
         c.in-Ok-query_at.ensures.1,
-        subst (λ (k : ℕ). Tells (take k c.read_tree.new.names) (query_of c.in-Ok-query_at.query) (rows_of tree.bits.now tree.labels.now) (string_bytes c.in-ok-text.text)) whole c.in-ok-text.ensures,
+        subst (λ (k : ℕ). Tells (take k c.read_tree.new.names) (query_of c.in-Ok-query_at.query) (rows_of tree.bits.now tree.labels.now) (string_bytes c.in_ok-text.text)) whole c.in_ok-text.ensures,
       ),
     )
 

@@ -2,8 +2,8 @@ use Rattle.std.proofs.Common.{sym, ap, ◌∙◌, arith, rules}
 use Rattle.rows.proofs.Excerpts.{excerpt_first, excerpt_first_past, lower, excerpt_fits}
 use Rattle.excerpt.proofs.ExcerptTree.first_child.Goals as goal
 
-pub overflow-add-self : goal.overflow-add-self
-overflow-add-self g c =
+pub overflow_add-self : goal.overflow_add-self
+overflow_add-self g c =
     let x = c.args.self.now in
     let f = excerpt_fits (g.T.Tree.rows x.tree.now) x.node c.args.v (g.T.Tree.lawful x.tree.now) (omega arith) in
     search rules

@@ -3,14 +3,14 @@ use Rattle.rows.proofs.Excerpts.{excerpt_next, excerpt_next_past, excerpt_next_r
 use Rattle.excerpt.proofs.ExcerptTree.next_sibling.Goals as goal
 use Rattle.excerpt.proofs.ExcerptTree.next_sibling.Goals.{then-v-eq0-via-then-v-eq0, then-v-eq0-via-else-v-eq0+then-v-size}
 
-pub overflow-add-self : goal.overflow-add-self
-overflow-add-self g c =
+pub overflow_add-self : goal.overflow_add-self
+overflow_add-self g c =
     let x = c.args.self.now in
     let f = excerpt_fits (g.T.Tree.rows x.tree.now) x.node c.args.v (g.T.Tree.lawful x.tree.now) (omega arith) in
     search rules
 
-pub overflow-sub-result : goal.overflow-sub-result
-overflow-sub-result g c =
+pub overflow_sub-result : goal.overflow_sub-result
+overflow_sub-result g c =
     let x = c.args.self.now in
     omega (arith, next_later (g.T.Tree.rows x.tree.now) _ _ (sym c.next_sibling.ensures ∙ c.in-Some.is))
 

@@ -2,8 +2,8 @@ use Rattle.std.proofs.Common.{ap, ◌∙◌, arith, rules}
 use Rattle.rows.proofs.Excerpts.{excerpt_size, excerpt_size_past, excerpt_root_size, excerpt_fits}
 use Rattle.excerpt.proofs.ExcerptTree.size.Goals as goal
 
-pub overflow-add-self : goal.overflow-add-self
-overflow-add-self g c =
+pub overflow_add-self : goal.overflow_add-self
+overflow_add-self g c =
     let x = c.args.self.now in
     let f = excerpt_fits (g.T.Tree.rows x.tree.now) x.node c.args.v (g.T.Tree.lawful x.tree.now) (omega arith) in
     search rules

@@ -47,6 +47,6 @@ loop-item-preserved c =
       go_on (length c.args.file.now) c.loop-item.rest.now c.in-Some.after.now
           (fed c.loop-item.feed c.loop-item.bits c.loop-item.labels) (fed c.apply.new.self c.apply.new.bits c.apply.new.labels)
           c.loop-item.names c.apply.new.names c.in-Feed.command
-          (sym c.in-Some.ensures ∙ ap (λ (x : FileCommand). Some (x, c.in-Some.after.now)) c.in-Feed.is) c.in-default.ensures.answers c.apply.ensures.leaves c.apply.ensures.stores
+          (sym c.in-Some.ensures ∙ ap (λ (x : FileCommand). Some (x, c.in-Some.after.now)) c.in-Feed.is) c.in_default.ensures.answers c.apply.ensures.leaves c.apply.ensures.stores
           ∙ c.loop-item.invariant.1,
     )

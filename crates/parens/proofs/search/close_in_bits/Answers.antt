@@ -8,8 +8,8 @@ use Rattle.parens.proofs.search.close_in_bits.Goals.{then-opens, else-opens+else
 pub loop-p-init : goal.loop-p-init
 loop-p-init c = (refl, c.requires.low)
 
-pub overflow-add-excess : goal.overflow-add-excess
-overflow-add-excess c = search rules
+pub overflow_add-excess : goal.overflow_add-excess
+overflow_add-excess c = search rules
 
 pub returns-then-excess-eq0 : goal.returns-then-excess-eq0
 returns-then-excess-eq0 c =

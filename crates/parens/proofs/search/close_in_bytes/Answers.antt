@@ -4,16 +4,16 @@ use Rattle.excess.specs.Excess.{total_of, least_of}
 use Rattle.shape.specs.Bits.{bits_of, close, openings_of}
 use Rattle.shape.proofs.Steps.{close_byte, byte_least, byte_openings, byte_few}
 use Rattle.parens.proofs.search.close_in_bytes.Goals as goal
-use Rattle.parens.proofs.search.close_in_bytes.Goals.{then-here-least-lt0+in-default, else-here-least-lt0}
+use Rattle.parens.proofs.search.close_in_bytes.Goals.{then-here-least-lt0+in_default, else-here-least-lt0}
 
 pub loop-i-init : goal.loop-i-init
 loop-i-init c = (refl, c.requires.low)
 
-pub overflow-cast-here : goal.overflow-cast-here
-overflow-cast-here c = let h = c.loop-i.invariant.1 in search rules
+pub overflow_cast-here : goal.overflow_cast-here
+overflow_cast-here c = let h = c.loop-i.invariant.1 in search rules
 
-pub overflow-add-here : goal.overflow-add-here
-overflow-add-here c = let h = c.loop-i.invariant.1 in search (rules, ints)
+pub overflow_add-here : goal.overflow_add-here
+overflow_add-here c = let h = c.loop-i.invariant.1 in search (rules, ints)
 
 pub close_in_bits-requires : goal.close_in_bits-requires
 close_in_bits-requires c = record { order = omega arith; within = omega arith; low = c.loop-i.invariant.1 }
@@ -21,11 +21,11 @@ close_in_bits-requires c = record { order = omega arith; within = omega arith; l
 pub returns-in-Some : goal.returns-in-Some
 returns-in-Some c = c.loop-i.invariant.0 ∙ c.in-Some.ensures
 
-pub overflow-add-excess : goal.overflow-add-excess
-overflow-add-excess c = let h = c.loop-i.invariant.1 in search (rules, ints)
+pub overflow_add-excess : goal.overflow_add-excess
+overflow_add-excess c = let h = c.loop-i.invariant.1 in search (rules, ints)
 
-pub overflow-cast-excess-else-here-least-lt0 : goal.overflow-cast-excess-else-here-least-lt0
-overflow-cast-excess-else-here-least-lt0 c =
+pub overflow_cast-excess-else-here-least-lt0 : goal.overflow_cast-excess-else-here-least-lt0
+overflow_cast-excess-else-here-least-lt0 c =
     let h = c.loop-i.invariant.1 in
     let l = byte_least (get_or c.args.bits.now c.loop-i.i 0) in
     let low = c.if-here-least-lt0.false in
@@ -41,8 +41,8 @@ loop-i-preserved c =
     let e = c.loop-i.excess in
     let h = c.loop-i.invariant.1 in
     elim c.if-here-least-lt0.branch [
-      | then-here-least-lt0+in-default w ↦
-          let k = w.in-default.ensures in
+      | then-here-least-lt0+in_default w ↦
+          let k = w.in_default.ensures in
           let z : 8 * i + 8 ≡ 8 * (i + 1) = omega arith in (
             c.loop-i.invariant.0 ∙ k.0 ∙ ap (λ (p : ℕ). p + close w.close_in_bits.new.excess (drop p (bits_of xs))) z ∙ ap (λ (x : ℕ). 8 * (i + 1) + close x (drop (8 * (i + 1)) (bits_of xs))) (sym w.excess-is),
             omega (arith, k.1, w.excess-is),

@@ -52,11 +52,11 @@ returns-else-at-eq0 c =
     ∙ ap (λ (cs : List Command). formulas_keep c.args.states cs l.at) (next_command l.bytes.now d d c.in-Some.rest.now c.in-Some.ensures refl)
     ∙ l.invariant.1
 
-pub returns-in-default-after_formula : goal.returns-in-default-after_formula
-returns-in-default-after_formula c =
+pub returns-in_default-after_formula : goal.returns-in_default-after_formula
+returns-in_default-after_formula c =
     let l = c.loop-command in
     let d = c.in-Some.command in
-    ap (λ (o : Option Formulas). thence o (formulas_keep c.args.states (commands_of c.in-Some.rest.now))) c.in-default-after_formula.ensures
+    ap (λ (o : Option Formulas). thence o (formulas_keep c.args.states (commands_of c.in-Some.rest.now))) c.in_default-after_formula.ensures
     ∙ formulas_next c.args.states d (commands_of c.in-Some.rest.now) l.at (sym c.opens_state.ensures ∙ c.if-opens_state.false)
     ∙ ap (λ (cs : List Command). formulas_keep c.args.states cs l.at) (next_command l.bytes.now d d c.in-Some.rest.now c.in-Some.ensures refl)
     ∙ l.invariant.1

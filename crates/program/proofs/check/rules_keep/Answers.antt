@@ -42,11 +42,11 @@ returns-then-ends c =
     ∙ ap (λ (cs : List Command). rules_keep c.args.counts cs l.at) (next_command l.bytes.now d d c.in-Some.rest.now c.in-Some.ensures refl)
     ∙ l.invariant.1
 
-pub returns-in-default-after_rule : goal.returns-in-default-after_rule
-returns-in-default-after_rule c =
+pub returns-in_default-after_rule : goal.returns-in_default-after_rule
+returns-in_default-after_rule c =
     let l = c.loop-command in
     let d = c.in-Some.command in
-    ap (λ (o : Option Rules). thence o (rules_keep c.args.counts (commands_of c.in-Some.rest.now))) c.in-default-after_rule.ensures
+    ap (λ (o : Option Rules). thence o (rules_keep c.args.counts (commands_of c.in-Some.rest.now))) c.in_default-after_rule.ensures
     ∙ rules_next c.args.counts d (commands_of c.in-Some.rest.now) l.at (sym c.ends.ensures ∙ c.if-ends.false)
     ∙ ap (λ (cs : List Command). rules_keep c.args.counts cs l.at) (next_command l.bytes.now d d c.in-Some.rest.now c.in-Some.ensures refl)
     ∙ l.invariant.1

@@ -45,11 +45,11 @@ loop-command-preserved c =
       omega (arith, k, f, c.closes-sending.ensures, l.invariant.4),
     )
 
-pub overflow-add-deciding : goal.overflow-add-deciding
-overflow-add-deciding c = let f = defined_le c.in-Some.command in let k = taken_less c.loop-command.bytes.now c.in-Some.command c.in-Some.rest.now (sym c.in-Some.ensures) in omega (arith, c.defines-deciding.ensures, c.loop-command.invariant.3)
+pub overflow_add-deciding : goal.overflow_add-deciding
+overflow_add-deciding c = let f = defined_le c.in-Some.command in let k = taken_less c.loop-command.bytes.now c.in-Some.command c.in-Some.rest.now (sym c.in-Some.ensures) in omega (arith, c.defines-deciding.ensures, c.loop-command.invariant.3)
 
-pub overflow-add-sending : goal.overflow-add-sending
-overflow-add-sending c = let f = defined_le c.in-Some.command in let k = taken_less c.loop-command.bytes.now c.in-Some.command c.in-Some.rest.now (sym c.in-Some.ensures) in omega (arith, c.closes-sending.ensures, c.loop-command.invariant.4)
+pub overflow_add-sending : goal.overflow_add-sending
+overflow_add-sending c = let f = defined_le c.in-Some.command in let k = taken_less c.loop-command.bytes.now c.in-Some.command c.in-Some.rest.now (sym c.in-Some.ensures) in omega (arith, c.closes-sending.ensures, c.loop-command.invariant.4)
 
 pub returns-then-bytes-eq0 : goal.returns-then-bytes-eq0
 returns-then-bytes-eq0 c =

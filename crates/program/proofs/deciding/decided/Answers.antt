@@ -24,9 +24,9 @@ ends n (Make m) cs s w p v a o t d = refl
 ends n Done cs s w p v a o t d = refl
 ends n End cs s w p v a o t d = refl
 
-pub returns-in-default-command : goal.returns-in-default-command
-returns-in-default-command c =
-    let r = c.in-default-command in
+pub returns-in_default-command : goal.returns-in_default-command
+returns-in_default-command c =
+    let r = c.in_default-command in
     let l = c.loop-command in
     ends c.args.node c.in-Some.command (commands_of c.in-Some.rest.now) l.stack l.word l.state r.not-Value r.not-And r.not-Or r.not-Not r.not-Define
     ∙ ap (λ (cs : List Command). decide c.args.node cs l.stack l.word l.state) (next_command l.bytes.now c.in-Some.command c.in-Some.command c.in-Some.rest.now c.in-Some.ensures refl)

@@ -11,8 +11,8 @@ use Rattle.commands.proofs.Spells.{taken_width, commands_none, next_command}
 use Rattle.commands.proofs.Ends.{After, after}
 use Rattle.program.proofs.rules.rules_start.Goals as goal
 
-pub overflow-sub-at : goal.overflow-sub-at
-overflow-sub-at c = (after c.args.program.now c.loop-command.at c.in-Some.command c.in-Some.rest.now c.loop-command.invariant.0 (sym (c.in-Some.ensures ∙ ap taken c.rest_from.ensures))).short
+pub overflow_sub-at : goal.overflow_sub-at
+overflow_sub-at c = (after c.args.program.now c.loop-command.at c.in-Some.command c.in-Some.rest.now c.loop-command.invariant.0 (sym (c.in-Some.ensures ∙ ap taken c.rest_from.ensures))).short
 
 pub loop-command-smaller : goal.loop-command-smaller
 loop-command-smaller c =

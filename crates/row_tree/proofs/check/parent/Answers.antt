@@ -12,8 +12,8 @@ loop-q-preserved c =
     let f = c.requires.earlier q z lt in
     (omega (arith, f.back), climb es c.args.v q lt (omega arith) f c.loop-q.invariant.1)
 
-pub overflow-sub-q-in-loop-q : goal.overflow-sub-q-in-loop-q
-overflow-sub-q-in-loop-q c =
+pub overflow_sub-q-in-loop-q : goal.overflow_sub-q-in-loop-q
+overflow_sub-q-in-loop-q c =
     let es = c.args.rows.now in
     let q = c.loop-q.q in
     let z = not_root es c.args.v q c.requires.root c.requires.within (omega arith) in

@@ -5,14 +5,14 @@ use Rattle.stored.specs.Stored.{stored_of}
 use Rattle.row_tree.proofs.Written.{climb_step, climb_end, size_fits}
 use Rattle.row_tree.proofs.write.parent.Goals as goal
 
-pub overflow-add-q : goal.overflow-add-q
-overflow-add-q g c =
+pub overflow_add-q : goal.overflow_add-q
+overflow_add-q g c =
     let t = g.T.Tree.rows c.args.tree.now in
     let f = size_fits t c.loop-q.q (g.T.Tree.lawful c.args.tree.now) (omega (arith, c.loop-q.invariant.0, c.requires.within)) in
     search rules
 
-pub overflow-sub-q-in-loop-q : goal.overflow-sub-q-in-loop-q
-overflow-sub-q-in-loop-q g c =
+pub overflow_sub-q-in-loop-q : goal.overflow_sub-q-in-loop-q
+overflow_sub-q-in-loop-q g c =
     let t = g.T.Tree.rows c.args.tree.now in
     let s = climb_step t (g.T.Tree.lawful c.args.tree.now) c.args.v c.requires.within c.loop-q.q c.loop-q.invariant.0 c.loop-q.invariant.1 (omega arith) in
     omega (arith, s.1, ap (λ (e : StoredRow). e.distance) (c.requires.known c.loop-q.q c.loop-q.invariant.0))

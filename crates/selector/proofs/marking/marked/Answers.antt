@@ -57,9 +57,9 @@ returns-then-marks c =
     ap (λ b. b || marking c.args.word (commands_of c.in-Some.rest.now) l.state l.active) (sym (sym c.marks.ensures ∙ c.if-marks.true))
     ∙ ap (λ (cs : List Command). marking c.args.word cs l.state l.active) (next_command l.bytes.now c.in-Some.command (Make c.in-Make.step) c.in-Some.rest.now c.in-Some.ensures c.in-Make.is) ∙ l.invariant.1
 
-pub returns-in-default-command : goal.returns-in-default-command
-returns-in-default-command c =
-    let r = c.in-default-command in
+pub returns-in_default-command : goal.returns-in_default-command
+returns-in_default-command c =
+    let r = c.in_default-command in
     let l = c.loop-command in
     ends c.args.word c.in-Some.command (commands_of c.in-Some.rest.now) l.state l.active r.not-When r.not-Make r.not-Done
     ∙ ap (λ (cs : List Command). marking c.args.word cs l.state l.active) (next_command l.bytes.now c.in-Some.command c.in-Some.command c.in-Some.rest.now c.in-Some.ensures refl) ∙ l.invariant.1
@@ -67,4 +67,4 @@ returns-in-default-command c =
 pub returns : goal.returns
 returns c =
     let l = c.loop-command in
-    sym (ap (λ (cs : List Command). marking c.args.word cs l.state l.active) (commands_none l.bytes.now (sym c.in-default.ensures))) ∙ l.invariant.1
+    sym (ap (λ (cs : List Command). marking c.args.word cs l.state l.active) (commands_none l.bytes.now (sym c.in_default.ensures))) ∙ l.invariant.1

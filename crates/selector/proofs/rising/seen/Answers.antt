@@ -18,7 +18,7 @@ returns g c =
     record {
       exact = cc;
       fits = record {
-        first = word_fits ws (first_of rows c.args.v) (λ i. (c.type-inv.work i).fits);
-        next = word_fits ws (next_of rows c.args.v) (λ i. (c.type-inv.work i).fits);
+        first = word_fits ws (first_of rows c.args.v) (λ i. (c.type_inv.work i).fits);
+        next = word_fits ws (next_of rows c.args.v) (λ i. (c.type_inv.work i).fits);
       };
     }

@@ -117,8 +117,8 @@ put_predicate-loop-first-preserved t c =
     let w = or_row c.args.table.now c.loop-first.left c.in-Or.first c.in-Or.second c.loop-first.invariant.0 c.in-Or.is in
     (w.left, omega (arith, w.left_below, c.loop-first.invariant.1), remains_less c.loop-first.invariant.2 w.is (adds_more (adds_more c.put_nots-then.ensures c.put-then.ensures) c.put_conjunction-then.ensures))
 
-pub put_predicate-returns-in-default : goal.put_predicate-returns-in-default
-put_predicate-returns-in-default t c = remains_none c.loop-first.invariant.2 c.put_conjunction.ensures
+pub put_predicate-returns-in_default : goal.put_predicate-returns-in_default
+put_predicate-returns-in_default t c = remains_none c.loop-first.invariant.2 c.put_conjunction.ensures
 
 pub put_member-bounds-table-index : goal.put_member-bounds-table-index
 put_member-bounds-table-index t c = reach_within c.args.table.now c.args.index c.requires.reaching

@@ -7,5 +7,5 @@ use Rattle.feed.proofs.types.Growing.begin.Goals as goal
 pub write_bit-requires : goal.write_bit-requires
 write_bit-requires c =
     let long = bits_length c.args.bits.now in
-    let r = started (bits_of c.args.bits.now) c.args.labels.now (sym c.in-ok-root_room.ensures) in
+    let r = started (bits_of c.args.bits.now) c.args.labels.now (sym c.in_ok-root_room.ensures) in
     omega arith

@@ -10,5 +10,5 @@ use Rattle.feed.proofs.types.Growing.open_element.Goals as goal
 pub write_bit-requires : goal.write_bit-requires
 write_bit-requires c =
     let long = bits_length c.args.bits.now in
-    let r = roomy (fed c.args.self.now c.args.bits.now c.args.labels.now) (sym c.in-ok-room.ensures) in
+    let r = roomy (fed c.args.self.now c.args.bits.now c.args.labels.now) (sym c.in_ok-room.ensures) in
     omega arith

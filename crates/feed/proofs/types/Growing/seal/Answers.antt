@@ -9,5 +9,5 @@ pub clear-requires : goal.clear-requires
 clear-requires c =
     let long = bits_length c.args.bits.now in
     let paired = c.args.self.paired in
-    let r = seals (fed c.args.self c.args.bits.now []) (length c.args.directory.now) (sym c.in-default.ensures) in
+    let r = seals (fed c.args.self c.args.bits.now []) (length c.args.directory.now) (sym c.in_default.ensures) in
     record { order = omega (arith, c.bytes_for.ensures); within = omega (arith, c.bytes_for.ensures) }

@@ -8,5 +8,5 @@ use Rattle.feed.proofs.types.Growing.shut.Goals as goal
 pub write_bit-requires : goal.write_bit-requires
 write_bit-requires c =
     let long = bits_length c.args.bits.now in
-    let r = shuts (fed c.args.self.now c.args.bits.now []) (sym c.in-ok-may_shut.ensures) in
+    let r = shuts (fed c.args.self.now c.args.bits.now []) (sym c.in_ok-may_shut.ensures) in
     omega arith

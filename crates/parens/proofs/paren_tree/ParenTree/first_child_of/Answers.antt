@@ -6,8 +6,8 @@ use Rattle.parens.proofs.paren_tree.ParenTree.first_child_of.Goals as goal
 pub returns-then-v-self : goal.returns-then-v-self
 returns-then-v-self c = first_past c.args.self.now c.args.v c.if-v-self.true
 
-pub overflow-add-next : goal.overflow-add-next
-overflow-add-next c =
+pub overflow_add-next : goal.overflow_add-next
+overflow_add-next c =
     let t = c.args.self.now in
     let b = opening_below t c.args.v c.if-v-self.false c.opening-next.result c.opening-next.ensures in
     let f = bytes_few t in

@@ -6,15 +6,15 @@ use Rattle.parens.proofs.paren_tree.ParenTree.next_sibling_of.Goals as goal
 pub returns-then-v-self : goal.returns-then-v-self
 returns-then-v-self c = next_past c.args.self.now c.args.v c.if-v-self.true
 
-pub overflow-add-at : goal.overflow-add-at
-overflow-add-at c =
+pub overflow_add-at : goal.overflow_add-at
+overflow_add-at c =
     let t = c.args.self.now in
     let b = closing_below t c.args.v c.if-v-self.false c.pair-at.result.opening c.pair-at.ensures.opened c.pair-at.result.closing c.pair-at.ensures.closed in
     let f = bytes_few t in
     search rules
 
-pub overflow-add-result : goal.overflow-add-result
-overflow-add-result c =
+pub overflow_add-result : goal.overflow_add-result
+overflow_add-result c =
     let t = c.args.self.now in
     let b = closing_below t c.args.v c.if-v-self.false c.pair-at.result.opening c.pair-at.ensures.opened c.pair-at.result.closing c.pair-at.ensures.closed in
     let f = bytes_few t in

@@ -4,8 +4,8 @@ use Rattle.scan.specs.Trees.{rows_of}
 use Rattle.parens.proofs.Facts.{opening_below, places_at, bytes_few}
 use Rattle.parens.proofs.paren_tree.ParenTree.pair.Goals as goal
 
-pub overflow-add-opening : goal.overflow-add-opening
-overflow-add-opening c =
+pub overflow_add-opening : goal.overflow_add-opening
+overflow_add-opening c =
     let t = c.args.self.now in
     let b = opening_below t c.args.v c.requires c.opening-opening.result c.opening-opening.ensures in
     let f = bytes_few t in

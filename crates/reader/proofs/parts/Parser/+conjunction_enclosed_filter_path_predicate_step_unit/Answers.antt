@@ -74,7 +74,7 @@ or_turn l i j r a b p q s u x f e on g n gx t =
     (or x g.0, or_joined l i j r b p q s u x g.0 f gx on g.1 n, join_told shape.Or l i j r b p q s u x g.0 f gx on g.1 n (PredOf l b) (or x g.0) (or_next l a b p s x (told q g.0) e gx.gained.on on t g.3))
 
 pub conjunction-loop-self-init : goal.conjunction-loop-self-init
-conjunction-loop-self-init t c = let g = c.in-ok-left.ensures in (pred_fit _ _ _ _ g.0 c.requires.fit g.1, λ p x f a b. (x, a, b))
+conjunction-loop-self-init t c = let g = c.in_ok-left.ensures in (pred_fit _ _ _ _ g.0 c.requires.fit g.1, λ p x f a b. (x, a, b))
 
 pub conjunction-loop-self-preserved : goal.conjunction-loop-self-preserved
 conjunction-loop-self-preserved t c =
@@ -84,13 +84,13 @@ conjunction-loop-self-preserved t c =
     let k = c.loop-self-test.ensures in
     let on = on_moved p.reader s k.2 in
     let q = c.unit-in-loop-self.new.self in
-    let g : UnitTells l (Ok c.in-ok-right.right) (with p s) q = c.in-ok-right.ensures in
+    let g : UnitTells l (Ok c.in_ok-right.right) (with p s) q = c.in_ok-right.ensures in
     let fit = c.loop-self.invariant.0 in
-    let x0 = c.in-ok-left.ensures in
+    let x0 = c.in_ok-left.ensures in
     let e = c.args.self.now in
     let left = c.loop-self.invariant.1 e x0.0 c.requires.fit x0.1 (one_unit (end_of e.reader) l (outer_left e) (inner_left e) (tokens_of e.reader) (told c.unit.new.self x0.0) x0.2) in (
-      join_fit shape.And l c.loop-self.left c.in-ok-right.right c.push-left.result e p q s c.push-left.new.table left.0 g.0 fit left.1 on g.1 c.push-left.ensures,
-      λ b x f a d. let y = c.loop-self.invariant.1 b x f a d in and_turn l c.loop-self.left c.in-ok-right.right c.push-left.result k.0 b p q s c.push-left.new.table y.0 fit k.1 on g c.push-left.ensures y.1 y.2,
+      join_fit shape.And l c.loop-self.left c.in_ok-right.right c.push-left.result e p q s c.push-left.new.table left.0 g.0 fit left.1 on g.1 c.push-left.ensures,
+      λ b x f a d. let y = c.loop-self.invariant.1 b x f a d in and_turn l c.loop-self.left c.in_ok-right.right c.push-left.result k.0 b p q s c.push-left.new.table y.0 fit k.1 on g c.push-left.ensures y.1 y.2,
     )
 
 pub conjunction-returns : goal.conjunction-returns
@@ -98,40 +98,40 @@ conjunction-returns t c =
     let l = c.args.levels in
     let e = c.args.self.now in
     let p = c.loop-self.self in
-    let x0 = c.in-ok-left.ensures in
+    let x0 = c.in_ok-left.ensures in
     let y = c.loop-self.invariant.1 e x0.0 c.requires.fit x0.1 (one_unit (end_of e.reader) l (outer_left e) (inner_left e) (tokens_of e.reader) (told c.unit.new.self x0.0) x0.2) in
     let k = c.loop-self-test.ensures in
     subst (λ r. ConjTells l (Ok c.loop-self.left) e (with p r)) (sym k.0) (y.0, y.1, k.1, y.2)
 
-pub enclosed-returns-in-err-inner : goal.enclosed-returns-in-err-inner
-enclosed-returns-in-err-inner t c =
+pub enclosed-returns-in_err-inner : goal.enclosed-returns-in_err-inner
+enclosed-returns-in_err-inner t c =
     let b = err_from_is_err_and c.from-residual.result c.from-residual.ensures.1 in
-    exit (λ r. EnclosedTells c.args.levels c.args.at c.args.shut r c.args.self.now c.predicate.new.self) c.from-residual.result c.in-err-inner.field-0.0 b b.2
-    (enclosed_err c.args.levels c.args.at c.args.shut c.args.self.now c.predicate.new.self c.if-levels-eq0.false c.in-err-inner.field-0.0 c.in-err-inner.ensures)
+    exit (λ r. EnclosedTells c.args.levels c.args.at c.args.shut r c.args.self.now c.predicate.new.self) c.from-residual.result c.in_err-inner.field-0.0 b b.2
+    (enclosed_err c.args.levels c.args.at c.args.shut c.args.self.now c.predicate.new.self c.if-levels-eq0.false c.in_err-inner.field-0.0 c.in_err-inner.ensures)
 
 pub enclosed-returns-in-Some : goal.enclosed-returns-in-Some
-enclosed-returns-in-Some t c = enclosed_ok c.args.levels c.args.at c.args.shut c.args.self.now c.predicate.new.self c.if-levels-eq0.false c.in-ok-inner.inner c.in-Some.field-0 c.accept.new.self c.in-ok-inner.ensures c.in-Some.ensures
+enclosed-returns-in-Some t c = enclosed_ok c.args.levels c.args.at c.args.shut c.args.self.now c.predicate.new.self c.if-levels-eq0.false c.in_ok-inner.inner c.in-Some.field-0 c.accept.new.self c.in_ok-inner.ensures c.in-Some.ensures
 
 pub enclosed-returns-in-None : goal.enclosed-returns-in-None
-enclosed-returns-in-None t c = enclosed_none c.args.levels c.args.at c.args.shut c.args.self.now c.predicate.new.self c.if-levels-eq0.false c.in-ok-inner.inner c.accept.new.self c.unexpected.result c.in-ok-inner.ensures c.in-None.ensures c.unexpected.ensures.code c.unexpected.ensures.place
+enclosed-returns-in-None t c = enclosed_none c.args.levels c.args.at c.args.shut c.args.self.now c.predicate.new.self c.if-levels-eq0.false c.in_ok-inner.inner c.accept.new.self c.unexpected.result c.in_ok-inner.ensures c.in-None.ensures c.unexpected.ensures.code c.unexpected.ensures.place
 
-pub filter-returns-in-ok-inner : goal.filter-returns-in-ok-inner
-filter-returns-in-ok-inner t c = filter_some c.args.levels c.in-Some.at c.in-ok-inner.inner c.args.self.now c.enclosed.new.self c.accept.new.self c.requires.fit c.in-Some.ensures c.in-ok-inner.ensures
+pub filter-returns-in_ok-inner : goal.filter-returns-in_ok-inner
+filter-returns-in_ok-inner t c = filter_some c.args.levels c.in-Some.at c.in_ok-inner.inner c.args.self.now c.enclosed.new.self c.accept.new.self c.requires.fit c.in-Some.ensures c.in_ok-inner.ensures
 
 pub filter-returns-in-None : goal.filter-returns-in-None
 filter-returns-in-None t c = filter_none c.args.levels c.args.self.now c.accept.new.self c.requires.fit c.in-None.ensures
 
 -- a path that begins
-pub path-returns-in-err-after : goal.path-returns-in-err-after
-path-returns-in-err-after t c =
+pub path-returns-in_err-after : goal.path-returns-in_err-after
+path-returns-in_err-after t c =
     let w = where_of c.args.region in
     let l = c.args.levels in
     let e = c.args.self.now in
     let g = walk_start w l c.lead-before.result e c.lead-before.new.reader c.requires.fit c.requires.starts c.lead-before.ensures in
     let d = c.loop-after.invariant.1 e (start (slash_of c.lead-before.result)) (subst (λ s. Walked w l c.lead-before.result s e (with e c.lead-before.new.reader) (start (slash_of c.lead-before.result))) (sym c.is_slash-slash.ensures) g) in
     let b = err_from_is_err_and c.from-residual.result c.from-residual.ensures.1 in
-    exit (λ r. PathTells w l r e c.step.new.self) c.from-residual.result c.in-err-after.field-0.0 b b.2
-    (walk_err w l c.loop-after.before c.loop-after.slash e c.loop-after.self c.step.new.self d.0 d.1 c.in-err-after.field-0.0 c.in-err-after.ensures)
+    exit (λ r. PathTells w l r e c.step.new.self) c.from-residual.result c.in_err-after.field-0.0 b b.2
+    (walk_err w l c.loop-after.before c.loop-after.slash e c.loop-after.self c.step.new.self d.0 d.1 c.in_err-after.field-0.0 c.in_err-after.ensures)
 
 pub path-returns-then-not-is_slash : goal.path-returns-then-not-is_slash
 path-returns-then-not-is_slash t c =
@@ -140,33 +140,33 @@ path-returns-then-not-is_slash t c =
     let e = c.args.self.now in
     let g = walk_start w l c.lead-before.result e c.lead-before.new.reader c.requires.fit c.requires.starts c.lead-before.ensures in
     let d = c.loop-after.invariant.1 e (start (slash_of c.lead-before.result)) (subst (λ s. Walked w l c.lead-before.result s e (with e c.lead-before.new.reader) (start (slash_of c.lead-before.result))) (sym c.is_slash-slash.ensures) g) in
-    walk_done w l c.loop-after.before c.loop-after.slash e c.loop-after.self c.step.new.self d.0 d.1 c.in-ok-after.after (sym c.is_slash.ensures ∙ c.if-not-is_slash.true) c.in-ok-after.ensures
+    walk_done w l c.loop-after.before c.loop-after.slash e c.loop-after.self c.step.new.self d.0 d.1 c.in_ok-after.after (sym c.is_slash.ensures ∙ c.if-not-is_slash.true) c.in_ok-after.ensures
 
 pub path-loop-after-preserved : goal.path-loop-after-preserved
 path-loop-after-preserved t c =
     let w = where_of c.args.region in
     let l = c.args.levels in (
-      step_fit w l c.loop-after.before c.loop-after.slash c.in-ok-after.after c.loop-after.self c.step.new.self c.loop-after.invariant.0 c.in-ok-after.ensures,
-      λ p b g. let d = c.loop-after.invariant.1 p b g in walk_on w l c.loop-after.before c.loop-after.slash p c.loop-after.self c.step.new.self d.0 d.1 c.in-ok-after.after (sym c.is_slash.ensures ∙ c.if-not-is_slash.false) c.in-ok-after.ensures,
+      step_fit w l c.loop-after.before c.loop-after.slash c.in_ok-after.after c.loop-after.self c.step.new.self c.loop-after.invariant.0 c.in_ok-after.ensures,
+      λ p b g. let d = c.loop-after.invariant.1 p b g in walk_on w l c.loop-after.before c.loop-after.slash p c.loop-after.self c.step.new.self d.0 d.1 c.in_ok-after.after (sym c.is_slash.ensures ∙ c.if-not-is_slash.false) c.in_ok-after.ensures,
     )
 
 pub predicate-loop-self-init : goal.predicate-loop-self-init
-predicate-loop-self-init t c = let g = c.in-ok-left.ensures in (pred_fit _ _ _ _ g.0 c.requires.fit g.1, g.2, λ p x f a b. (x, a, b))
+predicate-loop-self-init t c = let g = c.in_ok-left.ensures in (pred_fit _ _ _ _ g.0 c.requires.fit g.1, g.2, λ p x f a b. (x, a, b))
 
-pub predicate-returns-in-err-right : goal.predicate-returns-in-err-right
-predicate-returns-in-err-right t c =
+pub predicate-returns-in_err-right : goal.predicate-returns-in_err-right
+predicate-returns-in_err-right t c =
     let l = c.args.levels in
     let e = c.args.self.now in
     let p = c.loop-self.self in
     let s = c.keyword.new.self in
     let k = c.loop-self-test.ensures in
     let on = on_moved p.reader s k.2 in
-    let x0 = c.in-ok-left.ensures in
+    let x0 = c.in_ok-left.ensures in
     let y = c.loop-self.invariant.2 e x0.0 c.requires.fit x0.1 (one_conj (end_of e.reader) l (outer_left e) (inner_left e) (tokens_of e.reader) (told c.conjunction.new.self x0.0) x0.3) in
-    let f = c.in-err-right.field-0.0 in
-    let b = err_from_is_err_and c.from-residual-in-err-right.result c.from-residual-in-err-right.ensures.1 in
-    exit (λ r. PredTells l r e c.conjunction-in-loop-self.new.self) c.from-residual-in-err-right.result f b b.2
-    (or_next l k.0 e p s y.0 (failed f) k.1 y.1.gained.on on y.2 c.in-err-right.ensures)
+    let f = c.in_err-right.field-0.0 in
+    let b = err_from_is_err_and c.from-residual-in_err-right.result c.from-residual-in_err-right.ensures.1 in
+    exit (λ r. PredTells l r e c.conjunction-in-loop-self.new.self) c.from-residual-in_err-right.result f b b.2
+    (or_next l k.0 e p s y.0 (failed f) k.1 y.1.gained.on on y.2 c.in_err-right.ensures)
 
 pub predicate-loop-self-preserved : goal.predicate-loop-self-preserved
 predicate-loop-self-preserved t c =
@@ -176,14 +176,14 @@ predicate-loop-self-preserved t c =
     let k = c.loop-self-test.ensures in
     let on = on_moved p.reader s k.2 in
     let q = c.conjunction-in-loop-self.new.self in
-    let g : ConjTells l (Ok c.in-ok-right.right) (with p s) q = c.in-ok-right.ensures in
+    let g : ConjTells l (Ok c.in_ok-right.right) (with p s) q = c.in_ok-right.ensures in
     let fit = c.loop-self.invariant.0 in
-    let x0 = c.in-ok-left.ensures in
+    let x0 = c.in_ok-left.ensures in
     let e = c.args.self.now in
     let left = c.loop-self.invariant.2 e x0.0 c.requires.fit x0.1 (one_conj (end_of e.reader) l (outer_left e) (inner_left e) (tokens_of e.reader) (told c.conjunction.new.self x0.0) x0.3) in (
-      join_fit shape.Or l c.loop-self.left c.in-ok-right.right c.push-left.result e p q s c.push-left.new.table left.0 g.0 fit left.1 on g.1 c.push-left.ensures,
+      join_fit shape.Or l c.loop-self.left c.in_ok-right.right c.push-left.result e p q s c.push-left.new.table left.0 g.0 fit left.1 on g.1 c.push-left.ensures,
       g.2,
-      λ b x f a d. let y = c.loop-self.invariant.2 b x f a d in or_turn l c.loop-self.left c.in-ok-right.right c.push-left.result k.0 b p q s c.push-left.new.table y.0 fit k.1 on g c.push-left.ensures y.1 y.2,
+      λ b x f a d. let y = c.loop-self.invariant.2 b x f a d in or_turn l c.loop-self.left c.in_ok-right.right c.push-left.result k.0 b p q s c.push-left.new.table y.0 fit k.1 on g c.push-left.ensures y.1 y.2,
     )
 
 pub predicate-returns : goal.predicate-returns
@@ -191,7 +191,7 @@ predicate-returns t c =
     let l = c.args.levels in
     let e = c.args.self.now in
     let p = c.loop-self.self in
-    let x0 = c.in-ok-left.ensures in
+    let x0 = c.in_ok-left.ensures in
     let y = c.loop-self.invariant.2 e x0.0 c.requires.fit x0.1 (one_conj (end_of e.reader) l (outer_left e) (inner_left e) (tokens_of e.reader) (told c.conjunction.new.self x0.0) x0.3) in
     let k = c.loop-self-test.ensures in
     subst (λ r. PredTells l (Ok c.loop-self.left) e (with p r)) (sym k.0) (y.0, y.1, k.1, c.loop-self.invariant.1, y.2)
@@ -200,20 +200,20 @@ pub step-returns : goal.step-returns
 step-returns t c =
     let w = where_of c.args.region in
     let p = c.args.self.now in
-    let h = subst (λ f. HeadTells w f (Ok c.in-ok-head.head) p c.head.new.self) c.is_far.ensures c.in-ok-head.ensures in
-    let g = c.in-ok-bracket.ensures in
-    step_read w c.args.levels c.args.before c.args.slash c.lead-after.result p c.head.new.self c.filter.new.self c.lead-after.new.reader c.write_step.new.table c.in-ok-head.head h.0 g.0 c.in-ok-bracket.bracket c.next_step-next.result c.next_index-index.result c.requires.fit h.1 g.1 c.lead-after.ensures c.next_index-index.ensures c.next_step-next.ensures c.write_step.ensures
+    let h = subst (λ f. HeadTells w f (Ok c.in_ok-head.head) p c.head.new.self) c.is_far.ensures c.in_ok-head.ensures in
+    let g = c.in_ok-bracket.ensures in
+    step_read w c.args.levels c.args.before c.args.slash c.lead-after.result p c.head.new.self c.filter.new.self c.lead-after.new.reader c.write_step.new.table c.in_ok-head.head h.0 g.0 c.in_ok-bracket.bracket c.next_step-next.result c.next_index-index.result c.requires.fit h.1 g.1 c.lead-after.ensures c.next_index-index.ensures c.next_step-next.ensures c.write_step.ensures
 
 pub unit-returns-in-Some : goal.unit-returns-in-Some
-unit-returns-in-Some t c = not_unit c.args.levels c.in-Some.at c.in-ok-inner.inner c.args.self.now c.enclosed.new.self c.negation.new.self c.negate.new.table c.requires.fit (omega (arith, c.ranges.levels.fits)) c.in-Some.ensures c.in-ok-inner.ensures c.negate.ensures
+unit-returns-in-Some t c = not_unit c.args.levels c.in-Some.at c.in_ok-inner.inner c.args.self.now c.enclosed.new.self c.negation.new.self c.negate.new.table c.requires.fit (omega (arith, c.ranges.levels.fits)) c.in-Some.ensures c.in_ok-inner.ensures c.negate.ensures
 
 pub unit-returns : goal.unit-returns
 unit-returns t c =
     let l = c.args.levels in
     let p = c.args.self.now in
     let s = c.accept.new.self in
-    let same : s ≡ p.reader = c.in-default-accept.ensures.0 ∙ c.in-default.ensures.0 in
+    let same : s ≡ p.reader = c.in_default-accept.ensures.0 ∙ c.in_default.ensures.0 in
     let q = c.path.new.self in
     let u = c.push.new.table in
     let fit = fit_with p s c.requires.fit (on_same p.reader s same) in
-    subst (λ z. UnitTells l (Ok c.push.result) (with p z) (holding q u)) same (path_told l c.push.result (with p s) q u fit c.in-ok-path.ensures c.push.ensures)
+    subst (λ z. UnitTells l (Ok c.push.result) (with p z) (holding q u)) same (path_told l c.push.result (with p s) q u fit c.in_ok-path.ensures c.push.ensures)

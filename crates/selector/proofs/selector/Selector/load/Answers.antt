@@ -16,7 +16,7 @@ pub returns : goal.returns
 returns g c =
     let p = c.args.program.now in
     let s = state_of c.args.self.now in
-    let so : accepted p ≡ true = ok_so (accepted p) c.in-default.field-0 c.in-default.ensures.exact in
+    let so : accepted p ≡ true = ok_so (accepted p) c.in_default.field-0 c.in_default.ensures.exact in
     let same : c.copy_from_slice.new.self ≡ p = c.copy_from_slice.ensures.after in
     let held : take (length p) _ ≡ p = take_at c.copy_from_slice.new.self _ (length p) (ap length same) ∙ same in
     record {
@@ -27,10 +27,10 @@ returns g c =
           ∙ sym (ap (λ (b : Bool). granted_or (unless_so b bad_program) s (record { bytes = p; count = count (g.T.Tree.rows c.args.tree.now); phase = Rising (count (g.T.Tree.rows c.args.tree.now)) })) so);
     }
 
-pub invariant-of-self : goal.invariant-of-self
-invariant-of-self g c =
+pub invariant_of-self : goal.invariant_of-self
+invariant_of-self g c =
     let p = c.args.program.now in
-    let so : accepted p ≡ true = ok_so (accepted p) c.in-default.field-0 c.in-default.ensures.exact in
+    let so : accepted p ≡ true = ok_so (accepted p) c.in_default.field-0 c.in_default.ensures.exact in
     let short : length p ≤ 2048 = leb-true (length p) 2048 (and_parts (leb (length p) 2048) (thence (surveyed p) (λ n. all_keep n (commands_of p))) so).0 in
     let same : c.copy_from_slice.new.self ≡ p = c.copy_from_slice.ensures.after in
     let held : take (length p) _ ≡ p = take_at c.copy_from_slice.new.self _ (length p) (ap length same) ∙ same in

@@ -3,5 +3,5 @@ use Rattle.commands.specs.Begin.{lead}
 use Rattle.commands.proofs.Spells.{commands_none}
 use Rattle.selector.proofs.selector.Selector.new.Goals as goal
 
-pub invariant-of-result : goal.invariant-of-result
-invariant-of-result c = (omega arith, (omega arith, (sym (ap lead (commands_none [] refl)), (omega arith, tt))))
+pub invariant_of-result : goal.invariant_of-result
+invariant_of-result c = (omega arith, (omega arith, (sym (ap lead (commands_none [] refl)), (omega arith, tt))))
