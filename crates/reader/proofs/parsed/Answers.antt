@@ -11,8 +11,8 @@ returns-in_err-path c =
     let p : Parser = record { reader = c.new.result; table = c.empty_table.result } in
     let g : Fresh bs p = record { text = c.new.ensures.0; place = c.new.ensures.1; outside = c.empty_table.ensures.outside; inside = c.empty_table.ensures.inside; predicates = c.empty_table.ensures.predicates } in
     let f = c.in_err-path.field-0.0 in
-    let b = err_from_is_err_and c.from-residual.result c.from-residual.ensures.1 in
-    let is : c.from-residual.result ≡ Err f = b.1 ∙ ap Err b.2 in
+    let b = err_from_is_err_and c.from_residual.result c.from_residual.ensures.1 in
+    let is : c.from_residual.result ≡ Err f = b.1 ∙ ap Err b.2 in
     subst (Parsed bs) (sym is) (whole_err bs p c.path.new.self g c.requires f c.in_err-path.ensures)
 
 pub returns-then-at_end : goal.returns-then-at_end

@@ -8,7 +8,7 @@ returns-then-is_program c =
     let bs = c.args.program.now in
     record {
       exact = sym (cond-true _ _ _ (sym c.if-is_program.ensures.exact));
-      means = (λ e. loaded bs c.ok.program (c.if-is_program.ensures.means.0 refl), λ d. refl);
+      means = (λ e. loaded bs c.type_inv.program (c.if-is_program.ensures.means.0 refl), λ d. refl);
     }
 
 pub returns-else-is_program : goal.returns-else-is_program

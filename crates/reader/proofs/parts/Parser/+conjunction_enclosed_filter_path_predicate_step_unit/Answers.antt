@@ -105,8 +105,8 @@ conjunction-returns t c =
 
 pub enclosed-returns-in_err-inner : goal.enclosed-returns-in_err-inner
 enclosed-returns-in_err-inner t c =
-    let b = err_from_is_err_and c.from-residual.result c.from-residual.ensures.1 in
-    exit (λ r. EnclosedTells c.args.levels c.args.at c.args.shut r c.args.self.now c.predicate.new.self) c.from-residual.result c.in_err-inner.field-0.0 b b.2
+    let b = err_from_is_err_and c.from_residual.result c.from_residual.ensures.1 in
+    exit (λ r. EnclosedTells c.args.levels c.args.at c.args.shut r c.args.self.now c.predicate.new.self) c.from_residual.result c.in_err-inner.field-0.0 b b.2
     (enclosed_err c.args.levels c.args.at c.args.shut c.args.self.now c.predicate.new.self c.if-levels-eq0.false c.in_err-inner.field-0.0 c.in_err-inner.ensures)
 
 pub enclosed-returns-in-Some : goal.enclosed-returns-in-Some
@@ -115,8 +115,8 @@ enclosed-returns-in-Some t c = enclosed_ok c.args.levels c.args.at c.args.shut c
 pub enclosed-returns-in-None : goal.enclosed-returns-in-None
 enclosed-returns-in-None t c = enclosed_none c.args.levels c.args.at c.args.shut c.args.self.now c.predicate.new.self c.if-levels-eq0.false c.in_ok-inner.inner c.accept.new.self c.unexpected.result c.in_ok-inner.ensures c.in-None.ensures c.unexpected.ensures.code c.unexpected.ensures.place
 
-pub filter-returns-in_ok-inner : goal.filter-returns-in_ok-inner
-filter-returns-in_ok-inner t c = filter_some c.args.levels c.in-Some.at c.in_ok-inner.inner c.args.self.now c.enclosed.new.self c.accept.new.self c.requires.fit c.in-Some.ensures c.in_ok-inner.ensures
+pub filter-returns-in_ok-inner-in-Some : goal.filter-returns-in_ok-inner-in-Some
+filter-returns-in_ok-inner-in-Some t c = filter_some c.args.levels c.in-Some.at c.in_ok-inner-in-Some.inner c.args.self.now c.enclosed.new.self c.accept.new.self c.requires.fit c.in-Some.ensures c.in_ok-inner-in-Some.ensures
 
 pub filter-returns-in-None : goal.filter-returns-in-None
 filter-returns-in-None t c = filter_none c.args.levels c.args.self.now c.accept.new.self c.requires.fit c.in-None.ensures
@@ -129,8 +129,8 @@ path-returns-in_err-after t c =
     let e = c.args.self.now in
     let g = walk_start w l c.lead-before.result e c.lead-before.new.reader c.requires.fit c.requires.starts c.lead-before.ensures in
     let d = c.loop-after.invariant.1 e (start (slash_of c.lead-before.result)) (subst (λ s. Walked w l c.lead-before.result s e (with e c.lead-before.new.reader) (start (slash_of c.lead-before.result))) (sym c.is_slash-slash.ensures) g) in
-    let b = err_from_is_err_and c.from-residual.result c.from-residual.ensures.1 in
-    exit (λ r. PathTells w l r e c.step.new.self) c.from-residual.result c.in_err-after.field-0.0 b b.2
+    let b = err_from_is_err_and c.from_residual.result c.from_residual.ensures.1 in
+    exit (λ r. PathTells w l r e c.step.new.self) c.from_residual.result c.in_err-after.field-0.0 b b.2
     (walk_err w l c.loop-after.before c.loop-after.slash e c.loop-after.self c.step.new.self d.0 d.1 c.in_err-after.field-0.0 c.in_err-after.ensures)
 
 pub path-returns-then-not-is_slash : goal.path-returns-then-not-is_slash
@@ -164,8 +164,8 @@ predicate-returns-in_err-right t c =
     let x0 = c.in_ok-left.ensures in
     let y = c.loop-self.invariant.2 e x0.0 c.requires.fit x0.1 (one_conj (end_of e.reader) l (outer_left e) (inner_left e) (tokens_of e.reader) (told c.conjunction.new.self x0.0) x0.3) in
     let f = c.in_err-right.field-0.0 in
-    let b = err_from_is_err_and c.from-residual-in_err-right.result c.from-residual-in_err-right.ensures.1 in
-    exit (λ r. PredTells l r e c.conjunction-in-loop-self.new.self) c.from-residual-in_err-right.result f b b.2
+    let b = err_from_is_err_and c.from_residual-in_err-right.result c.from_residual-in_err-right.ensures.1 in
+    exit (λ r. PredTells l r e c.conjunction-in-loop-self.new.self) c.from_residual-in_err-right.result f b b.2
     (or_next l k.0 e p s y.0 (failed f) k.1 y.1.gained.on on y.2 c.in_err-right.ensures)
 
 pub predicate-loop-self-preserved : goal.predicate-loop-self-preserved
