@@ -110,7 +110,7 @@ fn enter(states: u64, node: Option<usize>, work: &mut [u64])
 
 // The states enter the first child of v; where there are none, the tree is not asked.
 fn enter_first<T: Tree>(tree: &T, v: usize, states: u64, work: &mut [u64])
-    ensures { work.new ≡ entered_all states (first_of (rows tree.now) v) work.old }
+    ensures { work.new ≡ entered_all states (first_of (T.rows tree.now) v) work.old }
 {
     if states != 0 {
         enter(states, tree.first_child(v), work);
@@ -119,7 +119,7 @@ fn enter_first<T: Tree>(tree: &T, v: usize, states: u64, work: &mut [u64])
 
 // likewise for the next sibling
 fn enter_next<T: Tree>(tree: &T, v: usize, states: u64, work: &mut [u64])
-    ensures { work.new ≡ entered_all states (next_of (rows tree.now) v) work.old }
+    ensures { work.new ≡ entered_all states (next_of (T.rows tree.now) v) work.old }
 {
     if states != 0 {
         enter(states, tree.next_sibling(v), work);
@@ -128,7 +128,7 @@ fn enter_next<T: Tree>(tree: &T, v: usize, states: u64, work: &mut [u64])
 
 // Delivers what node v sends.
 fn deliver<T: Tree>(tree: &T, v: usize, sent: Sending, work: &mut [u64])
-    ensures { work.new ≡ delivered (place_at (rows tree.now) v) sent work.old }
+    ensures { work.new ≡ delivered (place_at (T.rows tree.now) v) sent work.old }
 {
     enter(sent.here, Some(v), work);
     enter_first(tree, v, sent.down, work);
@@ -138,7 +138,7 @@ fn deliver<T: Tree>(tree: &T, v: usize, sent: Sending, work: &mut [u64])
 // Falls over the nodes from lo to hi minus 1, the first first.
 pub(crate) fn fall_over<T: Tree>(tree: &T, rules: &[u8], lo: usize, hi: usize, work: &mut [u64])
     requires { (lo ≤ hi) × (hi ≤ length work.old) }
-    ensures { work.new ≡ fallen (rows tree.now) (commands_of rules.now) lo (hi - lo) work.old }
+    ensures { work.new ≡ fallen (T.rows tree.now) (commands_of rules.now) lo (hi - lo) work.old }
 {
     let mut memo = Memo::new();
     for v in lo..hi {

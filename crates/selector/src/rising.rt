@@ -26,7 +26,7 @@ fn asked_word(work: &[u64], node: Option<usize>) -> u64
 
 // The bits of the first child's word that are asked for; where none are, the tree is not asked.
 fn first_seen<T: Tree>(tree: &T, work: &[u64], v: usize, bits: u64) -> u64
-    ensures { result ≡ bit_and (node_at (rows tree.now) work.now v).first bits }
+    ensures { result ≡ bit_and (node_at (T.rows tree.now) work.now v).first bits }
 {
     if bits == 0 {
         return 0;
@@ -36,7 +36,7 @@ fn first_seen<T: Tree>(tree: &T, work: &[u64], v: usize, bits: u64) -> u64
 
 // likewise for the next sibling
 fn next_seen<T: Tree>(tree: &T, work: &[u64], v: usize, bits: u64) -> u64
-    ensures { result ≡ bit_and (node_at (rows tree.now) work.now v).next bits }
+    ensures { result ≡ bit_and (node_at (T.rows tree.now) work.now v).next bits }
 {
     if bits == 0 {
         return 0;
@@ -46,8 +46,8 @@ fn next_seen<T: Tree>(tree: &T, work: &[u64], v: usize, bits: u64) -> u64
 
 // What the formulas see of node v, as far as they ask.
 fn seen<T: Tree>(tree: &T, work: &[u64], v: usize, asked: Asked) -> Node
-    ensures exact { result ≡ seen_of asked (node_at (rows tree.now) work.now v) }
-    ensures fits { Fits (node_at (rows tree.now) work.now v) }
+    ensures exact { result ≡ seen_of asked (node_at (T.rows tree.now) work.now v) }
+    ensures fits { Fits (node_at (T.rows tree.now) work.now v) }
 {
     Node {
         label: tree.label(v),
@@ -73,7 +73,7 @@ fn recalled_word(program: &[u8], memo: &mut Memo<Seen, u64>, node: Node) -> u64
 // Writes the words of the nodes from lo to hi minus 1, the last first; the root also enters the sending state 0.
 pub(crate) fn rise_over<T: Tree>(tree: &T, program: &[u8], lo: usize, hi: usize, work: &mut [u64])
     requires { (lo ≤ hi) × (hi ≤ length work.old) }
-    ensures { work.new ≡ risen (rows tree.now) (commands_of program.now) lo (hi - lo) work.old }
+    ensures { work.new ≡ risen (T.rows tree.now) (commands_of program.now) lo (hi - lo) work.old }
 {
     let asked = asked(program);
     let mut memo = Memo::new();

@@ -34,7 +34,7 @@ invariant_of-self g c =
     let short : length p ≤ 2048 = leb-true (length p) 2048 (and_parts (leb (length p) 2048) (thence (surveyed p) (λ n. all_keep n (commands_of p))) so).0 in
     let same : c.copy_from_slice.new.self ≡ p = c.copy_from_slice.ensures.after in
     let held : take (length p) _ ≡ p = take_at c.copy_from_slice.new.self _ (length p) (ap length same) ∙ same in
-    (short, (c.rules_start-self.ensures.inside, (c.rules_start-self.ensures.exact ∙ ap rules_at (sym held), (omega arith, tt))))
+    record { fits = short; within = c.rules_start-self.ensures.inside; begins = c.rules_start-self.ensures.exact ∙ ap rules_at (sym held); inside = omega arith }
 
 pub returns-in-Err : goal.returns-in-Err
 returns-in-Err g c =
