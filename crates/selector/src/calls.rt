@@ -129,7 +129,7 @@ impl Selector {
         lo: usize,
         hi: usize,
     ) -> Result<K, Fault>
-        ensures { valued K.value result ≡ outcome (refusal (state_of self.now) (count_of (T.rows tree.now)) (length work.now) (tally-call lo hi)) (marks_of K.empty mark join (told_nodes (state_of self.now) work.now lo hi)) }
+        ensures { valued K.value result ≡ outcome (refusal (state_of self.now) (count_of (T.rows tree.now)) (length work.now) (tally-call lo hi)) (marks_of K.empty K.mark K.join (told_nodes (state_of self.now) work.now lo hi)) }
     {
         if let Phase::Empty = self.phase {
             return Err(Fault::NoProgram);

@@ -74,7 +74,7 @@ fn is_marked(rules: &[u8], memo: &mut Memo<u64, bool>, word: u64) -> bool
 // The join of the marks of the marked nodes from lo to hi minus 1.
 pub(crate) fn join_marks<K: Tally + Drop>(rules: &[u8], work: &[u64], lo: usize, hi: usize) -> K
     requires { (lo ≤ hi) × ((hi ≤ length work.now) × (hi ≤ 8192)) }
-    ensures { K.value result ≡ marks_of K.empty K.mark join (marked_nodes (commands_of rules.now) work.now lo (hi - lo)) }
+    ensures { K.value result ≡ marks_of K.empty K.mark K.join (marked_nodes (commands_of rules.now) work.now lo (hi - lo)) }
 {
     let mut memo = Memo::new();
     let mut sum = K::none();
