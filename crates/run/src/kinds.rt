@@ -35,7 +35,7 @@ pub trait Kinds: Sized {
         lo: usize,
         hi: usize,
     ) -> Result<Self, Fault>
-        ensures { valued (value kind) result ≡ outcome (refusal (state_of selector.now) (count_of (rows tree.now)) (length work.now) (tally-call lo hi)) (marks_of (empty kind) (mark kind) (join kind) (told_nodes (state_of selector.now) work.now lo hi)) };
+        ensures { valued (value kind) result ≡ outcome (refusal (state_of selector.now) (count_of (T.rows tree.now)) (length work.now) (tally-call lo hi)) (marks_of (empty kind) (mark kind) (join kind) (told_nodes (state_of selector.now) work.now lo hi)) };
 
     ghost assoc: { (i : ℕ) (x y z : Value i) → join i (join i x y) z ≡ join i x (join i y z) };
 

@@ -19,10 +19,10 @@ pub fn settle<T: Tree>(
     program: &[u8],
     work: &mut [u64],
 ) -> Result<(), Fault>
-    ensures answer { result ≡ outcome (settle_refusal (rows tree.now) program.now work.old) tt }
-    ensures state { state_of selector.new ≡ settled_state (rows tree.now) program.now (state_of selector.old) work.old }
-    ensures words { work.new ≡ settled_words (rows tree.now) program.now work.old }
-    ensures ready { (names : Store) (q : Path) → Translation names q program.now → settle_refusal (rows tree.now) program.now work.old ≡ None → Ready names q (rows tree.now) (state_of selector.new) work.new }
+    ensures answer { result ≡ outcome (settle_refusal (T.rows tree.now) program.now work.old) tt }
+    ensures state { state_of selector.new ≡ settled_state (T.rows tree.now) program.now (state_of selector.old) work.old }
+    ensures words { work.new ≡ settled_words (T.rows tree.now) program.now work.old }
+    ensures ready { (names : Store) (q : Path) → Translation names q program.now → settle_refusal (T.rows tree.now) program.now work.old ≡ None → Ready names q (T.rows tree.now) (state_of selector.new) work.new }
 {
     if let Err(fault) = check(program) {
         return Err(Fault::Program(fault));
