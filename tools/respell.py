@@ -3,8 +3,8 @@
 
 usage: python3 tools/respell.py        at the top of the repository, once, after the kit's own script for older repositories
 
-What is defined in specs/ and proofs/ under a name with a dash, or in camel case, gets it in snake case; a type, in camel
-case with a capital. Names that Rattle makes (of goals, invariants and measures), functions of src/, strings, and
+What is defined in specs/ and proofs/, or imported by `as`, under a name with a dash, or in camel case, gets it in snake
+case; a type, in camel case with a capital. Names that Rattle makes (of goals, invariants and measures), functions of src/, strings, and
 comments outside backquotes stay. A new name that stands somewhere already is printed, as `falls together`, and done
 all the same where TOGETHER lists it; else the old one stays.
 """
@@ -16,11 +16,13 @@ import sys
 
 SIGNATURE = re.compile(r"^\s*(?:(?:abbrev|unfoldable|pub|mutual) )*(?:(data|record) )?([A-Za-z][\w'-]*) (?:\{[^}]*\} )*(?:\([^)]*\) )*:(?: (.*))?$")
 TOKEN = re.compile(r"[A-Za-z_][\w'-]*")
+USE = re.compile(r"^(ghost )?use ")
+ALIAS = re.compile(r"\bas ([A-Za-z][\w'-]*)")
 # New names that stand somewhere already, looked at one by one: what has them is of another module or a bound variable.
 TOGETHER = set("""
 UnitOf and_wraps at_end axis_before axis_of first_is formulas_keep holds_name is_child is_empty is_end is_far is_marked
 is_name is_node is_root is_text label_from may_follow name_test next_from next_is of_filter of_path of_pred or_wraps
-part_end predicate_at put_bit rules_keep step_at with_command with_move
+first_child next_sibling part_end predicate_at put_bit rules_keep step_at with_command with_move
 """.split())
 # Names that would fall together within a file: a lemma named as its function gets `_lem`.
 OTHERWISE = {
@@ -86,6 +88,11 @@ def renames(root):
                 goals.add(name)
             else:
                 found[name].add(is_type(kind, signature))
+    for path in files(os.path.join(root, "crates"), ".antt", ".rt"):
+        for line in read(path).split("\n"):
+            if USE.match(line):
+                for name in ALIAS.findall(line):
+                    found[name].add(name[0].isupper())
     new = {}
     for name, types in found.items():
         if name in goals or name in STAY:

@@ -14,7 +14,7 @@ use Rattle.feedfile.specs.Faults as file
 use Rattle.feedfile.specs.Files.{Grown}
 use Rattle.feedtree.specs.Answer.{tree_answer}
 use Rattle.choosing.specs.declared.chosen.Fault.{Fault}
-use Rattle.choosing.specs.declared.chosen.Fault.TheVariants.{TooLong, Feed, Query as Text-of-query}
+use Rattle.choosing.specs.declared.chosen.Fault.TheVariants.{TooLong, Feed, Query as TextOfQuery}
 use Rattle.choosing.specs.declared.chosen.Chosen.{Chosen}
 use Rattle.choosing.specs.declared.chosen.Chosen.TheVariants.{Text, Refused}
 use Rattle.choosing.specs.Printed.{printed}
@@ -23,12 +23,12 @@ use Rattle.choosing.specs.Printed.{printed}
 abbrev pub code_of : Fault → ℕ
 code_of TooLong = 11
 code_of (Feed f) = file.code_of f
-code_of (Text-of-query f) = query.code_of f
+code_of (TextOfQuery f) = query.code_of f
 
 abbrev pub place_of : Fault → ℕ
 place_of TooLong = 65536
 place_of (Feed f) = file.place_of f
-place_of (Text-of-query f) = query.place_of f
+place_of (TextOfQuery f) = query.place_of f
 
 -- a text tells of the nodes that the query q selects in a tree, all of them in order
 abbrev pub Tells : Store → Path → List Row → List ℕ → Type 0
@@ -53,7 +53,7 @@ pub record Input (input : List ℕ) (rows : List Row) (names : Store) (text : Li
 abbrev pub Chooses : List ℕ → Chosen → Type 0
 Chooses input (Refused TooLong) = 65536 < length input
 Chooses input (Refused (Feed f)) = (length input ≤ 65536) × FeedRefused input f
-Chooses input (Refused (Text-of-query f)) =
+Chooses input (Refused (TextOfQuery f)) =
     (length input ≤ 65536) × ((rows : List Row) × (names : Store) × (text : List ℕ) × Input input rows names text × (outcome text ≡ refused (query.code_of f) (query.place_of f)))
 Chooses input (Text s) =
     (length input ≤ 65536) × ((rows : List Row) × (names : Store) × (text : List ℕ) × (q : Path) × Input input rows names text × (outcome text ≡ accepted q) × Tells names q rows (string_bytes s))

@@ -3,7 +3,7 @@ ghost use Rattle.std.specs.Prelude.{◌≡◌, ◌≤◌, length, IfOk, None, st
 ghost use Rattle.rows.specs.Rows.{count_of};
 ghost use Rattle.query.specs.Queries.{query_of};
 ghost use Rattle.tally.specs.Monoid.{marks_of};
-ghost use Rattle.selector.specs.Calls.Call.{tally as tally-call};
+ghost use Rattle.selector.specs.Calls.Call.{tally as tally_call};
 ghost use Rattle.selector.specs.Steps.{state_of, refusal, told_nodes};
 ghost use Rattle.choosing.specs.Choosing.{Tells};
 
@@ -21,8 +21,8 @@ use tree::Tree;
 
 // The tally of all nodes, which is due.
 fn whole<T: Tree, K: Tally + Drop>(selector: &Selector, tree: &T, work: &[u64], n: usize) -> K
-    requires { refusal (state_of selector.now) (count_of (rows tree.now)) (length work.now) (tally-call 0 n) ≡ None }
-    ensures { value result ≡ marks_of empty mark join (told_nodes (state_of selector.now) work.now 0 n) }
+    requires { refusal (state_of selector.now) (count_of (T.rows tree.now)) (length work.now) (tally_call 0 n) ≡ None }
+    ensures { K.value result ≡ marks_of K.empty K.mark K.join (told_nodes (state_of selector.now) work.now 0 n) }
 {
     match selector.tally(tree, work, 0, n) {
         Ok(tally) => tally,
@@ -41,7 +41,7 @@ pub(crate) fn select_text<T: Tree>(
 ) -> Result<String, AllocError>
     requires bytes { 2048 ≤ length program.old }
     requires words { 8192 ≤ length work.old }
-    ensures { IfOk result (λ s. Tells names.now (query_of query.now) (rows tree.now) (string_bytes s)) }
+    ensures { IfOk result (λ s. Tells names.now (query_of query.now) (T.rows tree.now) (string_bytes s)) }
 {
     let mut selector = Selector::new();
     let _ = prepare(&mut selector, query, names, tree, program, work);

@@ -1,7 +1,7 @@
 -- What the words of the work area mean after any list of calls.
 use Rattle.std.proofs.Common.{◌≡◌, ℕ, ◌+◌, ◌-◌, ◌<◌, ◌≤◌, ◌↔◌, List, [], ◌∷◌, length, Some, None, Option, sym, refl, ap, ◌∙◌, subst, arith}
 use mathlib.Core.Logic.Iff
-use Rattle.rows.specs.Rows.{Row, count_of as count, Lawful as Lawful-rows}
+use Rattle.rows.specs.Rows.{Row, count_of as count, Lawful as LawfulRows}
 use Rattle.automata.specs.Program.{Program, Comes}
 use Rattle.automata.proofs.Falls.{falling}
 use Rattle.commands.specs.Commands.{commands_of}
@@ -23,7 +23,7 @@ same_some o a b p q = cc
 not_both : (o : Option (List ℕ)) (b : List ℕ) → o ≡ None → o ≡ Some b → ⊥
 not_both o b p q = let z : ◌≡◌ {A = ℕ} 0 1 = cc in omega arith
 
-module _ (rows : List Row) (tree : Lawful-rows rows) where
+module _ (rows : List Row) (tree : LawfulRows rows) where
   -- past the last node all moves have been made
   past : (P : Program) (b : List ℕ) → Denotes b P → (x y q w : ℕ) → count rows ≤ x → count rows ≤ y → Comes P rows x q w → Comes P rows y q w
   past P b d x y q w hx hy c = λ D r. let f = falling P D rows tree d.0 in (f.all y q w hy).1 ((f.all x q w hx).0 (c D r))

@@ -2,7 +2,7 @@
 use Rattle.std.proofs.Common.{◌≡◌, ℕ, zero, suc, ◌+◌, ◌-◌, ◌*◌, ◌/◌, ◌%◌, ◌<◌, ◌≤◌, Bool, true, false, cond, ◌&&◌, eqb, leb, ◌⊎◌, List, [], ◌∷◌, ◌++◌, length, get_or, replicate, Some, None, Option, sym, refl, ap, ◌∙◌, subst, subst₂, inl, inr, ⊎_elim, arith}
 use lib.ListN.{length-replicate}
 use Rattle.std.proofs.lemmas.Bool.{false≢true, eq-eqb, le-leb, leb-true, and_parts, and_from}
-use Rattle.rows.specs.Rows.{Row, count_of as count, Lawful as Lawful-rows}
+use Rattle.rows.specs.Rows.{Row, count_of as count, Lawful as LawfulRows}
 use Rattle.commands.specs.declared.command.Command.{Command}
 use Rattle.commands.specs.Commands.{commands_of}
 use Rattle.commands.specs.Checked.{accepted, Loadable}
@@ -18,7 +18,7 @@ use Rattle.sweep.specs.Falling.{fallen, marking}
 use Rattle.sweep.proofs.Risen.{length_risen}
 use Rattle.tally.specs.Monoid.{marks_of, Laws}
 use Rattle.tallying.specs.Nodes.{is_marked, marked_nodes, Lists}
-use Rattle.tallying.specs.Stages.{Agree, Falling as Fell-words}
+use Rattle.tallying.specs.Stages.{Agree, Falling as FellWords}
 use Rattle.tallying.proofs.Stages.{stages}
 use Rattle.tallying.proofs.Same.{words_settle}
 use Rattle.tallying.proofs.Marks.{marked_append, marks_append}
@@ -83,7 +83,7 @@ program_stays p (tally lo hi) false h = refl
 program_stays p (other lo hi) true h = refl
 program_stays p (other lo hi) false h = refl
 
-module _ {V : Type 0} {empty : V} {join : V → V → V} (laws : Laws empty join) (mark : ℕ → V) (rows : List Row) (tree : Lawful-rows rows) where
+module _ {V : Type 0} {empty : V} {join : V → V → V} (laws : Laws empty join) (mark : ℕ → V) (rows : List Row) (tree : LawfulRows rows) where
   abbrev grant : Option Fault → State → List ℕ → ℕ → ℕ → Bool
   grant o s ws lo hi = granted (reply_by empty mark join rows o s ws (tally lo hi))
 
@@ -136,8 +136,8 @@ module _ {V : Type 0} {empty : V} {join : V → V → V} (laws : Laws empty join
       let n = count rows in
       let all = stages c P rows (record { decodes = denoted c P d; proper = d.0; lawful = tree }) in
       let s : 0 + n ≡ n = omega arith in
-      let fell : Fell-words c P rows n ws =
-      subst (Fell-words c P rows n) (sym w.is) (subst (λ (x : ℕ). Fell-words c P rows x (fallen rows (rules c) 0 n w.up)) s (all.fall 0 n w.up (omega arith) (all.turn w.up w.rose))) in
+      let fell : FellWords c P rows n ws =
+      subst (FellWords c P rows n) (sym w.is) (subst (λ (x : ℕ). FellWords c P rows x (fallen rows (rules c) 0 n w.up)) s (all.fall 0 n w.up (omega arith) (all.turn w.up w.rose))) in
       let told = all.settle ws fell in
       let same = (agreeing P told.0 rows tree d.0 told.1).marks in
       lists_over (Marked P told.0 rows) (Marks P rows) lo (hi - lo) (marked_nodes (rules c) ws lo (hi - lo)) (λ v x y. same v) (told.2 lo (hi - lo) (omega arith))

@@ -9,7 +9,7 @@ use Rattle.commands.specs.Checked.{accepted}
 use Rattle.sweep.specs.Rising.{risen}
 use Rattle.sweep.specs.Falling.{fallen}
 use Rattle.sweep.proofs.Risen.{length_risen}
-use Rattle.tallying.specs.Stages.{Rising as Rising-words}
+use Rattle.tallying.specs.Stages.{Rising as RisingWords}
 use Rattle.tallying.proofs.Stages.{risen_join, fallen_join}
 use Rattle.selector.specs.Codes.{bad_program}
 use Rattle.selector.specs.declared.phase.Phase.{Phase}
@@ -44,7 +44,7 @@ fallen_on rows cs x y up ws h e =
 -- all nodes have been risen over, and those before x fallen over
 pub record FallingWords (b : List ℕ) (rows : List Row) (x : ℕ) (ws : List ℕ) : Type 0 where
   pub up : List ℕ
-  pub rose : Rising-words b rows 0 up
+  pub rose : RisingWords b rows 0 up
   pub is : ws ≡ fallen rows (rules b) 0 x up
 
 -- a program is loaded
@@ -58,7 +58,7 @@ pub record RisingSo (rows : List Row) (p : Progress) (b : List ℕ) (m : ℕ) (w
   pub more : 0 < l
   pub sum : p.risen + l ≡ count rows
   pub none : p.fallen ≡ 0
-  pub words : Rising-words b rows l ws
+  pub words : RisingWords b rows l ws
 
 pub record FallingSo (rows : List Row) (p : Progress) (b : List ℕ) (m : ℕ) (ws : List ℕ) (x : ℕ) : Type 0 where
   pub on : LoadedSo rows p b m

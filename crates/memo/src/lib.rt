@@ -1,7 +1,7 @@
 // A small memory of answers. An answer is kept at a place that its key gives, until another takes the place.
 ghost use Rattle.std.specs.Prelude.{◌≡◌, ℕ, ◌<◌, List, replicate, Some, None, Decides, slice_index_or, slice_set};
 ghost use Rattle.memo.specs.Places.{Finds};
-ghost use Rattle.memo.specs.Spread.{spread as spread-of};
+ghost use Rattle.memo.specs.Spread.{spread as spread_of};
 
 // What an answer is kept under.
 pub trait Key: Copy + Drop {
@@ -18,14 +18,14 @@ pub trait Key: Copy + Drop {
 
 // Spreads words over the sixteen places.
 pub fn spread(word: u64) -> usize
-    ensures exact { result ≡ spread-of word }
+    ensures exact { result ≡ spread_of word }
     ensures within { result < 16 }
 {
     (word.wrapping_mul(0x9e37_79b9_7f4a_7c15) >> 60) as usize
 }
 
 impl Key for u64 {
-    ghost place = { spread-of };
+    ghost place = { spread_of };
 
     fn place(self) -> usize {
         spread(self)

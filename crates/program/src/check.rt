@@ -1,7 +1,7 @@
 // The rules for programs.
 ghost use Rattle.std.specs.Prelude.{◌≡◌, ◌^◌, ◌<◌, false, not, ◌&&◌, is_ok, Decides};
 ghost use Rattle.commands.specs.Commands.{commands_of};
-ghost use Rattle.commands.specs.Checked.{defined, closed, surveyed, names as names-defined, opens, formula_step, formulas_keep, goes as Goes-to, is_end, rule_step, rules_keep, few_states, is_empty, all_keep, accepted, Loadable};
+ghost use Rattle.commands.specs.Checked.{defined, closed, surveyed, names as names_defined, opens, formula_step, formulas_keep, goes as GoesTo, is_end, rule_step, rules_keep, few_states, is_empty, all_keep, accepted, Loadable};
 ghost use Rattle.commands.specs.Denotes.{Denotes};
 ghost use Rattle.automata.specs.Program.{Program};
 ghost use Rattle.program.specs.Faults.{checked, code_of};
@@ -51,7 +51,7 @@ fn survey(program: &[u8]) -> Option<Counts>
 
 // whether the atom names a state that it may
 fn names(atom: Atom, states: usize, state: usize) -> bool
-    ensures { result ≡ names-defined atom states state }
+    ensures { result ≡ names_defined atom states state }
 {
     match atom {
         Atom::First(q) => (q as usize) < states,
@@ -119,7 +119,7 @@ fn formulas_keep(program: &[u8], states: usize) -> bool
 
 // whether the move leads to a state that it may
 fn goes(step: Move, states: usize, state: usize) -> bool
-    ensures { result ≡ Goes-to step states state }
+    ensures { result ≡ GoesTo step states state }
 {
     match step {
         Move::Down(q) => (q as usize) < states,

@@ -1,6 +1,6 @@
 // A stack of at most 32 truth values in one number, the latest in its lowest bit.
 ghost use Rattle.std.specs.Prelude.{◌≡◌};
-ghost use Rattle.commands.specs.Stack.{push as pushed, top as latest, both as both_of, either as either-of, neither as neither-of};
+ghost use Rattle.commands.specs.Stack.{push as pushed, top as latest, both as both_of, either as either_of, neither as neither_of};
 
 pub(crate) fn push(stack: u32, value: bool) -> u32
     ensures { result ≡ pushed stack value }
@@ -24,14 +24,14 @@ pub(crate) fn both(stack: u32) -> u32
 
 // the latest two values joined by `or`
 pub(crate) fn either(stack: u32) -> u32
-    ensures { result ≡ either-of stack }
+    ensures { result ≡ either_of stack }
 {
     push(stack / 4, top(stack / 2) || top(stack))
 }
 
 // the latest value turned
 pub(crate) fn neither(stack: u32) -> u32
-    ensures { result ≡ neither-of stack }
+    ensures { result ≡ neither_of stack }
 {
     push(stack / 2, !top(stack))
 }

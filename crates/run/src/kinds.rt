@@ -2,7 +2,7 @@
 ghost use Rattle.std.specs.Prelude.{◌≡◌, ℕ, zero, suc, length};
 ghost use Rattle.rows.specs.Rows.{count_of};
 ghost use Rattle.tally.specs.Monoid.{marks_of};
-ghost use Rattle.selector.specs.Calls.Call.{tally as tally-call};
+ghost use Rattle.selector.specs.Calls.Call.{tally as tally_call};
 ghost use Rattle.selector.specs.Steps.{state_of, refusal, outcome, valued, told_nodes};
 ghost use Rattle.history.specs.Pick.{Pick, pick, pick_mark, pick_join};
 ghost use Rattle.history.specs.Cases.{either_value};
@@ -35,7 +35,7 @@ pub trait Kinds: Sized {
         lo: usize,
         hi: usize,
     ) -> Result<Self, Fault>
-        ensures { valued (value kind) result ≡ outcome (refusal (state_of selector.now) (count_of (T.rows tree.now)) (length work.now) (tally-call lo hi)) (marks_of (empty kind) (mark kind) (join kind) (told_nodes (state_of selector.now) work.now lo hi)) };
+        ensures { valued (value kind) result ≡ outcome (refusal (state_of selector.now) (count_of (T.rows tree.now)) (length work.now) (tally_call lo hi)) (marks_of (empty kind) (mark kind) (join kind) (told_nodes (state_of selector.now) work.now lo hi)) };
 
     ghost assoc: { (i : ℕ) (x y z : Value i) → join i (join i x y) z ≡ join i x (join i y z) };
 

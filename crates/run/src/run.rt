@@ -19,7 +19,7 @@ pub fn carry_out<T: Tree, S: Kinds + Drop>(
     work: &mut [u64],
     call: Call<'_>,
 ) -> Answer<S>
-    ensures answer { (i : ℕ) → answer_by (S.value i) (of_kind i call.entry) result ≡ reply (S.empty i) (S.mark i) (join i) (rows tree.now) (state_of selector.old) work.old (call_by i call.entry) }
+    ensures answer { (i : ℕ) → answer_by (S.value i) (of_kind i call.entry) result ≡ reply (S.empty i) (S.mark i) (S.join i) (T.rows tree.now) (state_of selector.old) work.old (call_by i call.entry) }
     ensures state { (i : ℕ) → state_of selector.new ≡ state_after (T.rows tree.now) (state_of selector.old) work.old (call_by i call.entry) }
     ensures words { (i : ℕ) → work.new ≡ words_after (T.rows tree.now) (state_of selector.old) work.old (call_by i call.entry) }
 {
@@ -58,9 +58,9 @@ pub fn run<T: Tree, S: Kinds + Copy>(
     answers: &mut [Answer<S>],
 ) -> usize
     ensures number { result ≡ min (length calls.now) (length answers.old) }
-    ensures law { count_of (T.rows tree.now) ≤ length work.old → (i : ℕ) → Lawful (S.empty i) (S.mark i) (join i) (T.rows tree.now) (turns_by i (value i) calls.now answers.new) }
+    ensures law { count_of (T.rows tree.now) ≤ length work.old → (i : ℕ) → Lawful (S.empty i) (S.mark i) (S.join i) (T.rows tree.now) (turns_by i (S.value i) calls.now answers.new) }
     ensures means { count_of (T.rows tree.now) ≤ length work.old → (i : ℕ) → WordsMean (T.rows tree.now) (progress start (turns_by i (S.value i) calls.now answers.new)) work.new }
-    ensures exact { (s : State) × ((i : ℕ) → Ran (S.empty i) (S.mark i) (S.join i) (rows tree.now) fresh work.old (turns_by i (value i) calls.now answers.new) s work.new) }
+    ensures exact { (s : State) × ((i : ℕ) → Ran (S.empty i) (S.mark i) (S.join i) (T.rows tree.now) fresh work.old (turns_by i (S.value i) calls.now answers.new) s work.new) }
     ensures rest { drop result answers.new ≡ drop result answers.old }
 {
     let mut selector = Selector::new();

@@ -12,7 +12,7 @@ use Rattle.history.proofs.Loads.{loads_accepted}
 use Rattle.history.proofs.Stages.{mk}
 use Rattle.translation.specs.Translation.{Translation}
 use Rattle.translate.specs.Outcome.{Granted}
-use Rattle.selector.specs.declared.fault.Fault.{Fault as Selector-fault}
+use Rattle.selector.specs.declared.fault.Fault.{Fault as SelectorFault}
 use Rattle.selector.specs.declared.phase.Phase.TheVariants.{Settled}
 use Rattle.selector.specs.Steps.{State, granted_or}
 use Rattle.settle.specs.Settling.{settle_refusal, settled_state, settled_words, swept, Ready}
@@ -41,7 +41,7 @@ prepared names q rows old new s t ws vs n fit g e f r =
     record {
       size = n;
       translated = g;
-      state = e ∙ ap (λ (o : Option Selector-fault). granted_or o s (mk (take (n - 0) new) (count_of rows) Settled)) none ∙ ap (λ (k : ℕ). mk (take k new) (count_of rows) Settled) z;
-      words = f ∙ ap (λ (o : Option Selector-fault). granted_or o ws (swept rows (take (n - 0) new) ws)) none ∙ ap (λ (k : ℕ). swept rows (take k new) ws) z;
+      state = e ∙ ap (λ (o : Option SelectorFault). granted_or o s (mk (take (n - 0) new) (count_of rows) Settled)) none ∙ ap (λ (k : ℕ). mk (take k new) (count_of rows) Settled) z;
+      words = f ∙ ap (λ (o : Option SelectorFault). granted_or o ws (swept rows (take (n - 0) new) ws)) none ∙ ap (λ (k : ℕ). swept rows (take k new) ws) z;
       ready = r names (query_of q) (subst (λ (k : ℕ). Translation names (query_of q) (take k new)) (sym z) g.translation) none;
     }

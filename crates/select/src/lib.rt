@@ -67,7 +67,7 @@ pub fn select<T: Tree, K: Tally + Drop>(
     lo: usize,
     hi: usize,
 ) -> Result<K, Fault>
-    ensures answer { elim result [ Ok k ↦ (select_refusal (count_of (T.rows tree.now)) (length program.old) (length work.old) lo hi ≡ None) × Tells K.empty K.mark join names.now query.now (T.rows tree.now) lo hi (value k) | Err f ↦ select_refusal (count_of (T.rows tree.now)) (length program.old) (length work.old) lo hi ≡ Some f ] }
+    ensures answer { elim result [ Ok k ↦ (select_refusal (count_of (T.rows tree.now)) (length program.old) (length work.old) lo hi ≡ None) × Tells K.empty K.mark K.join names.now query.now (T.rows tree.now) lo hi (K.value k) | Err f ↦ select_refusal (count_of (T.rows tree.now)) (length program.old) (length work.old) lo hi ≡ Some f ] }
     ensures leaves { Prepares (select_refusal (count_of (T.rows tree.now)) (length program.old) (length work.old) lo hi) names.now query.now (T.rows tree.now) program.old program.new (state_of selector.old) (state_of selector.new) work.old work.new }
 {
     if program.len() < 2048 {

@@ -4,7 +4,7 @@ ghost use Rattle.rows.specs.Rows.{count_of};
 ghost use Rattle.commands.specs.Commands.{commands_of};
 ghost use Rattle.commands.specs.Rules.{after_deciding};
 ghost use Rattle.tally.specs.Monoid.{marks_of};
-ghost use Rattle.selector.specs.Calls.Call.{load as load-call, rise as rise-call, fall as fall-call, tally as tally-call};
+ghost use Rattle.selector.specs.Calls.Call.{load as load_call, rise as rise_call, fall as fall_call, tally as tally_call};
 ghost use Rattle.selector.specs.Codes.{code_of};
 ghost use Rattle.selector.specs.Steps.{State, state_of, fresh, refusal, outcome, left_over, state_after, words_after, valued, told_nodes};
 
@@ -49,8 +49,8 @@ impl Selector {
 
     // Checks and copies a program, notes the number of nodes and begins rising.
     pub fn load<T: Tree>(&mut self, tree: &T, program: &[u8]) -> Result<(), Fault>
-        ensures answer { result ≡ outcome (refusal (state_of self.old) (count_of (T.rows tree.now)) 0 (load-call program.now)) tt }
-        ensures state { state_of self.new ≡ state_after (T.rows tree.now) (state_of self.old) [] (load-call program.now) }
+        ensures answer { result ≡ outcome (refusal (state_of self.old) (count_of (T.rows tree.now)) 0 (load_call program.now)) tt }
+        ensures state { state_of self.new ≡ state_after (T.rows tree.now) (state_of self.old) [] (load_call program.now) }
     {
         if let Err(fault) = check(program) {
             return Err(Fault::Program(fault));
@@ -65,9 +65,9 @@ impl Selector {
 
     // Rises over k nodes or all that are left, from the last down, and answers the number left.
     pub fn rise<T: Tree>(&mut self, tree: &T, work: &mut [u64], k: usize) -> Result<usize, Fault>
-        ensures answer { result ≡ outcome (refusal (state_of self.old) (count_of (T.rows tree.now)) (length work.old) (rise-call k)) (left_over self.old.phase self.old.count k) }
-        ensures state { state_of self.new ≡ state_after (T.rows tree.now) (state_of self.old) work.old (rise-call k) }
-        ensures words { work.new ≡ words_after (T.rows tree.now) (state_of self.old) work.old (rise-call k) }
+        ensures answer { result ≡ outcome (refusal (state_of self.old) (count_of (T.rows tree.now)) (length work.old) (rise_call k)) (left_over self.old.phase self.old.count k) }
+        ensures state { state_of self.new ≡ state_after (T.rows tree.now) (state_of self.old) work.old (rise_call k) }
+        ensures words { work.new ≡ words_after (T.rows tree.now) (state_of self.old) work.old (rise_call k) }
     {
         if let Phase::Empty = self.phase {
             return Err(Fault::NoProgram);
@@ -95,9 +95,9 @@ impl Selector {
 
     // Falls over k nodes or all that are left, from the first up, and answers the number left.
     pub fn fall<T: Tree>(&mut self, tree: &T, work: &mut [u64], k: usize) -> Result<usize, Fault>
-        ensures answer { result ≡ outcome (refusal (state_of self.old) (count_of (T.rows tree.now)) (length work.old) (fall-call k)) (left_over self.old.phase self.old.count k) }
-        ensures state { state_of self.new ≡ state_after (T.rows tree.now) (state_of self.old) work.old (fall-call k) }
-        ensures words { work.new ≡ words_after (T.rows tree.now) (state_of self.old) work.old (fall-call k) }
+        ensures answer { result ≡ outcome (refusal (state_of self.old) (count_of (T.rows tree.now)) (length work.old) (fall_call k)) (left_over self.old.phase self.old.count k) }
+        ensures state { state_of self.new ≡ state_after (T.rows tree.now) (state_of self.old) work.old (fall_call k) }
+        ensures words { work.new ≡ words_after (T.rows tree.now) (state_of self.old) work.old (fall_call k) }
     {
         if let Phase::Empty = self.phase {
             return Err(Fault::NoProgram);
@@ -129,7 +129,7 @@ impl Selector {
         lo: usize,
         hi: usize,
     ) -> Result<K, Fault>
-        ensures { valued K.value result ≡ outcome (refusal (state_of self.now) (count_of (T.rows tree.now)) (length work.now) (tally-call lo hi)) (marks_of K.empty K.mark K.join (told_nodes (state_of self.now) work.now lo hi)) }
+        ensures { valued K.value result ≡ outcome (refusal (state_of self.now) (count_of (T.rows tree.now)) (length work.now) (tally_call lo hi)) (marks_of K.empty K.mark K.join (told_nodes (state_of self.now) work.now lo hi)) }
     {
         if let Phase::Empty = self.phase {
             return Err(Fault::NoProgram);

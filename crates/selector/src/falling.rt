@@ -4,7 +4,7 @@ ghost use Rattle.memo.specs.Places.{Recalls};
 ghost use Rattle.rows.specs.Answers.{first_of, next_of};
 ghost use Rattle.commands.specs.Commands.{commands_of};
 ghost use Rattle.sweep.specs.Falling.{acting, place_at, fallen};
-ghost use Rattle.sweep.specs.Sending.{nothing_sent, with_move, sending as sending-of, entered_all, delivered};
+ghost use Rattle.sweep.specs.Sending.{nothing_sent, with_move, sending as sending_of, entered_all, delivered};
 ghost use Rattle.selector.specs.Recalled.{Sends};
 
 use commands::command::{Command, Move};
@@ -54,7 +54,7 @@ pub(crate) fn is_entered(word: u64) -> bool
 
 // What a node of the word sends: the moves of the states that enter it, from the first state up.
 fn sending(rules: &[u8], word: u64) -> Sending
-    ensures { result ≡ sending-of word (commands_of rules.now) 0 false nothing_sent }
+    ensures { result ≡ sending_of word (commands_of rules.now) 0 false nothing_sent }
 {
     let mut bytes = rules;
     let mut state: usize = 0;

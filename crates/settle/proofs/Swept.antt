@@ -1,7 +1,7 @@
 -- A load, a rise and a fall over all nodes settle a selector.
 use Rattle.std.proofs.Common.{◌≡◌, ℕ, ◌+◌, ◌-◌, ◌<◌, ◌≤◌, Bool, true, false, cond, eqb, leb, List, [], length, Some, None, Ok, Err, Option, Result, sym, refl, ap, ◌∙◌, subst, arith}
 use Rattle.std.proofs.lemmas.Bool.{eq-eqb, le-leb, lt-leb, and_parts}
-use Rattle.program.specs.declared.fault.Fault.{Fault as Broken-fault}
+use Rattle.program.specs.declared.fault.Fault.{Fault as BrokenFault}
 use Rattle.program.specs.declared.fault.Fault.TheVariants.{Broken}
 use Rattle.rows.specs.Rows.{Row, count_of, Lawful}
 use Rattle.grammar.specs.Syntax.{Path}
@@ -35,7 +35,7 @@ granted_is (Some f) old new e = let z : ◌≡◌ {A = ℕ} 0 1 = cc in absurd (
 granted_is None old new e = refl
 
 -- bytes that the check refuses, or takes
-pub bad_so : (t : Bool) (f : Broken-fault) → ◌≡◌ {A = Result (Unit {0}) Broken-fault} (Err f) (cond t (Ok tt) (Err Broken)) → (t ≡ false) × (f ≡ Broken)
+pub bad_so : (t : Bool) (f : BrokenFault) → ◌≡◌ {A = Result (Unit {0}) BrokenFault} (Err f) (cond t (Ok tt) (Err Broken)) → (t ≡ false) × (f ≡ Broken)
 bad_so true f e = let z : ◌≡◌ {A = ℕ} 0 1 = cc in absurd (omega arith)
 bad_so false f e = (refl, cc)
 

@@ -2,7 +2,7 @@
 use Rattle.std.proofs.Common.{◌≡◌, ℕ, zero, suc, ◌+◌, ◌<◌, ◌≤◌, Bool, true, false, T, ◌⊎◌, ◌↔◌, List, [], ◌∷◌, length, get_or, set, Some, None, Option, sym, refl, ap, ◌∙◌, subst, inl, inr, ⊎_elim, arith, length-set, get_or-set_other, get_or-set_same}
 use Rattle.std.proofs.lemmas.Bool.{cases_eq}
 use Rattle.rows.specs.Rows.{Row, count_of as count, FirstChild, NextSibling}
-use Rattle.rows.specs.Answers.{first_of as firstChild, next_of as nextSibling}
+use Rattle.rows.specs.Answers.{first_of as first_child, next_of as next_sibling}
 use Rattle.rows.specs.Claims.{Answers}
 use Rattle.automata.specs.Program.{Goes, Leads}
 use Rattle.automata.specs.Program as program
@@ -90,9 +90,9 @@ enters n p R (Some x) ws few room a within one = record {
 module _ (rows : List Row) (v : ℕ) (h : v < count rows) where
   pub move_adds : (m : Move) (n j : ℕ) (ws : List ℕ) → n ≤ 24 → count rows ≤ length ws → Goes (move m) n j → Adds (count rows) ws (made m (place_at rows v) ws) (λ q w. Leads (move m) rows v q w)
   move_adds (Down p) n j ws few room g =
-      enters (count rows) p (FirstChild rows v) (firstChild rows v) ws (omega arith) room (questions rows v h).0 (λ w r. r.1) (λ w x a b. a.0 ∙ sym b.0)
+      enters (count rows) p (FirstChild rows v) (first_child rows v) ws (omega arith) room (questions rows v h).0 (λ w r. r.1) (λ w x a b. a.0 ∙ sym b.0)
   move_adds (On p) n j ws few room g =
-      enters (count rows) p (NextSibling rows v) (nextSibling rows v) ws (omega arith) room (questions rows v h).1 (λ w r. r.1) (next_unique rows v)
+      enters (count rows) p (NextSibling rows v) (next_sibling rows v) ws (omega arith) room (questions rows v h).1 (λ w r. r.1) (next_unique rows v)
   move_adds (Stay p) n j ws few room g =
       enters (count rows) p (λ w. v ≡ w) (Some v) ws (omega arith) room refl (λ w r. subst (λ (x : ℕ). x < count rows) r h) (λ w x a b. sym a ∙ b)
   move_adds Mark n j ws few room g = adds_none (count rows) ws _ (λ q w r. r)

@@ -4,7 +4,7 @@ use mathlib.Core.Logic.Iff
 use native.Mathlib.Decide.{dec_lt}
 use Rattle.std.proofs.lemmas.Bool.{eqb-true, eq-eqb, leb-true, le-leb, cases_eq}
 use Rattle.rows.specs.Rows.{Row, count_of as count, label_of as label, FirstChild, NextSibling, Lawful}
-use Rattle.rows.specs.Answers.{first_of as firstChild, next_of as nextSibling}
+use Rattle.rows.specs.Answers.{first_of as first_child, next_of as next_sibling}
 use Rattle.rows.specs.Claims.{Answers}
 use Rattle.automata.specs.Program.{Formula, Program, Proper, Decisions, OfKind, TrueAt, Names, Right}
 use Rattle.automata.specs.Program as program
@@ -71,8 +71,8 @@ module _ (rows : List Row) where
     value_true (program.kind k) = kind_true k v
     value_true (program.label_is c) = T-eqb (label rows v) c
     value_true program.true = (λ t. t, λ t. t)
-    value_true (program.first q) = asked ws q (FirstChild rows v) (firstChild rows v) (questions rows v h).0 (first_unique v)
-    value_true (program.next q) = asked ws q (NextSibling rows v) (nextSibling rows v) (questions rows v h).1 (next_unique rows v)
+    value_true (program.first q) = asked ws q (FirstChild rows v) (first_child rows v) (questions rows v h).0 (first_unique v)
+    value_true (program.next q) = asked ws q (NextSibling rows v) (next_sibling rows v) (questions rows v h).1 (next_unique rows v)
     value_true (program.here q) = (λ t. t, λ t. t)
     value_true (program.and f g) =
         let a = value_true f in
@@ -92,8 +92,8 @@ module _ (rows : List Row) where
   node_later : (ws : List ℕ) (v u x : ℕ) → v < count rows → u ≤ v → node_at rows (set ws u x) v ≡ node_at rows ws v
   node_later ws v u x h l =
       let q = questions rows v h in
-      let a = later (firstChild rows v) v (FirstChild rows v) q.0 (λ w r. let e = r.0 in omega arith) ws u x l in
-      let b = later (nextSibling rows v) v (NextSibling rows v) q.1 (λ w r. r.0) ws u x l in
+      let a = later (first_child rows v) v (FirstChild rows v) q.0 (λ w r. let e = r.0 in omega arith) ws u x l in
+      let b = later (next_sibling rows v) v (NextSibling rows v) q.1 (λ w r. r.0) ws u x l in
       cc
 
   word_later : (cs : List Command) (ws : List ℕ) (v u x : ℕ) → v < count rows → u ≤ v → word_at rows cs (set ws u x) v ≡ word_at rows cs ws v

@@ -1,7 +1,7 @@
 -- The words that falling leaves, and the marks that it means.
 use Rattle.std.specs.Prelude.{ℕ, zero, suc, ◌+◌, Bool, true, false, cond, ◌&&◌, ◌||◌, List, [], ◌∷◌, Some, None, Option, slice_index, slice_set}
 use Rattle.rows.specs.Rows.{Row}
-use Rattle.rows.specs.Answers.{first_of as firstChild, next_of as nextSibling}
+use Rattle.rows.specs.Answers.{first_of as first_child, next_of as next_sibling}
 use Rattle.words.specs.Bit.{bit, with_bit}
 use Rattle.commands.specs.declared.command.Move.{Move}
 use Rattle.commands.specs.declared.command.Move.TheVariants.{Down, On, Stay, Mark}
@@ -38,7 +38,7 @@ sent a (Done ∷ cs) j b ws = sent a cs (j + 1) false ws
 sent a (End ∷ cs) j b ws = ws
 
 abbrev pub place_at : List Row → ℕ → Place
-place_at rows v = record { node = v; first = firstChild rows v; next = nextSibling rows v }
+place_at rows v = record { node = v; first = first_child rows v; next = next_sibling rows v }
 
 -- the k nodes from v on, the first first
 abbrev pub fallen : List Row → List Command → ℕ → ℕ → List ℕ → List ℕ

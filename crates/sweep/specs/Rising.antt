@@ -1,7 +1,7 @@
 -- The words that rising writes.
 use Rattle.std.specs.Prelude.{ℕ, zero, suc, List, [], ◌∷◌, Some, None, Option, ◌==◌, slice_index, slice_set}
 use Rattle.rows.specs.Rows.{Row, label_of as label}
-use Rattle.rows.specs.Answers.{first_of as firstChild, next_of as nextSibling}
+use Rattle.rows.specs.Answers.{first_of as first_child, next_of as next_sibling}
 use Rattle.words.specs.Bit.{bit, put_bit}
 use Rattle.commands.specs.declared.node.Node.{Node}
 use Rattle.commands.specs.declared.command.Command.{Command}
@@ -13,7 +13,7 @@ word_of ws (Some w) = slice_index ws w
 
 -- what the formulas see of node v
 abbrev pub node_at : List Row → List ℕ → ℕ → Node
-node_at rows ws v = record { label = label rows v; first = word_of ws (firstChild rows v); next = word_of ws (nextSibling rows v) }
+node_at rows ws v = record { label = label rows v; first = word_of ws (first_child rows v); next = word_of ws (next_sibling rows v) }
 
 -- the word of node v, by the words of later nodes; the root enters the sending state 0
 unfoldable pub word_at : List Row → List Command → List ℕ → ℕ → ℕ

@@ -2,7 +2,7 @@
 use Rattle.std.proofs.Common.{◌≡◌, ℕ, zero, suc, ◌+◌, ◌<◌, ◌≤◌, Bool, true, false, cond, eqb, ◌⊎◌, List, [], ◌∷◌, length, get_or, set, Some, None, Option, sym, refl, ap, ◌∙◌, subst, inl, inr, arith, length-set, get_or-set_other, get_or-set_same}
 use Rattle.std.proofs.lemmas.Bool.{cases_eq}
 use Rattle.rows.specs.Rows.{Row, count_of as count, FirstChild, NextSibling}
-use Rattle.rows.specs.Answers.{first_of as firstChild, next_of as nextSibling}
+use Rattle.rows.specs.Answers.{first_of as first_child, next_of as next_sibling}
 use Rattle.rows.specs.Claims.{Answers}
 use Rattle.rows.proofs.Questions.{questions}
 use Rattle.words.specs.Bit.{put_bit, with_bit}
@@ -38,8 +38,8 @@ module _ (rows : List Row) where
   unfolding word_at
   node_same cs xs ys v h e =
       let q = questions rows v h in
-      let a = word_same xs ys (FirstChild rows v) (firstChild rows v) q.0 (λ w r. e w (let k = r.0 in omega arith) r.1) in
-      let b = word_same xs ys (NextSibling rows v) (nextSibling rows v) q.1 (λ w r. e w r.0 r.1) in
+      let a = word_same xs ys (FirstChild rows v) (first_child rows v) q.0 (λ w r. e w (let k = r.0 in omega arith) r.1) in
+      let b = word_same xs ys (NextSibling rows v) (next_sibling rows v) q.1 (λ w r. e w r.0 r.1) in
       let same : node_at rows xs v ≡ node_at rows ys v = cc in
       ap (λ (n : Node). put_bit (decide n cs 0 0 0) 40 (eqb v 0)) same
 
@@ -77,8 +77,8 @@ module _ (rows : List Row) where
 
   module _ (v : ℕ) (h : v < count rows) where
     made_same : (m : Move) (xs ys : List ℕ) → Both xs ys → Both (made m (place_at rows v) xs) (made m (place_at rows v) ys)
-    made_same (Down q) xs ys b = entered_same q (FirstChild rows v) (firstChild rows v) xs ys (questions rows v h).0 (λ w r. r.1) b
-    made_same (On q) xs ys b = entered_same q (NextSibling rows v) (nextSibling rows v) xs ys (questions rows v h).1 (λ w r. r.1) b
+    made_same (Down q) xs ys b = entered_same q (FirstChild rows v) (first_child rows v) xs ys (questions rows v h).0 (λ w r. r.1) b
+    made_same (On q) xs ys b = entered_same q (NextSibling rows v) (next_sibling rows v) xs ys (questions rows v h).1 (λ w r. r.1) b
     made_same (Stay q) xs ys b = entered_same q (λ w. v ≡ w) (Some v) xs ys refl (λ w r. subst (λ (x : ℕ). x < count rows) r h) b
     made_same Mark xs ys b = b
 

@@ -1,7 +1,7 @@
 use Rattle.std.proofs.Common.{◌≡◌, ℕ, ◌≤◌, List, length, Err, Option, Result, sym, ap, ◌∙◌, subst₂, arith}
 use Rattle.rows.specs.Rows.{count_of}
 use Rattle.commands.specs.Checked.{accepted}
-use Rattle.program.specs.declared.fault.Fault.{Fault as Broken-fault}
+use Rattle.program.specs.declared.fault.Fault.{Fault as BrokenFault}
 use Rattle.selector.specs.Codes.{bad_program}
 use Rattle.selector.specs.declared.fault.Fault.{Fault}
 use Rattle.selector.specs.declared.fault.Fault.TheVariants.{Program, SmallWork}
@@ -23,7 +23,7 @@ returns-in-Err g c =
     let bad = bad_so (accepted b) c.in-Err.fault c.in-Err.ensures.exact in
     let e = asks_program rows b ws bad.0 in
     record {
-      answer = ap (λ (f : Broken-fault). let r : Result (Unit {0}) Fault = Err (Program f) in r) bad.1 ∙ sym (ap (λ (o : Option Fault). outcome o tt) e);
+      answer = ap (λ (f : BrokenFault). let r : Result (Unit {0}) Fault = Err (Program f) in r) bad.1 ∙ sym (ap (λ (o : Option Fault). outcome o tt) e);
       state = sym (ap (λ (o : Option Fault). granted_or o s (mk b (count_of rows) Settled)) e);
       words = sym (ap (λ (o : Option Fault). granted_or o ws (swept rows b ws)) e);
       ready = λ names q t n. absurd (some_none _ bad_program e n);
