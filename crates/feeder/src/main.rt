@@ -157,7 +157,7 @@ impl Outline {
 
     // A text, or an element by its name.
     fn node(&mut self, word: &[u8]) -> Result<Option<Reason>, AllocError> {
-        if word == b"#" {
+        if word == b"#".as_slice() {
             self.feed.push(0x03)?;
             return Ok(None);
         }

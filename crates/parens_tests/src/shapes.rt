@@ -1,6 +1,8 @@
 // Trees of a regular shape, with what each of their nodes should answer.
 use scan::block::Block;
 use scan::directory::fill;
+use std::alloc::Global;
+use std::process::Abort;
 use std::test::*;
 
 #[derive(Clone, Copy)]
@@ -140,10 +142,15 @@ fn open_at(bits: &mut [u8], p: usize) {
 }
 
 // Writes a tree of n nodes, node by node: the closings that are due, and an opening.
-pub(crate) fn written(rt: &HostRuntime, shape: Shape, n: usize) -> Result<Buffers, Fail> {
-    let mut bits = vec![in rt.alloc(); 0u8; n / 4 + 1]?;
-    let mut labels = vec![in rt.alloc()]?;
-    let mut directory = vec![in rt.alloc(); Block {
+pub(crate) fn written(
+    rt: &impl Abort,
+    heap: Global,
+    shape: Shape,
+    n: usize,
+) -> Result<Buffers, Fail> {
+    let mut bits = vec![in heap; 0u8; n / 4 + 1]?;
+    let mut labels = vec![in heap]?;
+    let mut directory = vec![in heap; Block {
         before: 0,
         least: 0
     }; n / 128 + 1]?;
@@ -157,7 +164,7 @@ pub(crate) fn written(rt: &HostRuntime, shape: Shape, n: usize) -> Result<Buffer
         open = node.depth.wrapping_add(1);
         labels.push(node.label)?;
     }
-    assert_eq!(
+    assert_eq!(rt;
         crate::example::code(fill(bits.as_slice(), n, directory.as_mut_slice())),
         0
     );
