@@ -63,7 +63,7 @@ fn start(rt: &HostRuntime) -> anyhow::Result<()> {
 }
 
 fn usage(rt: &HostRuntime) -> anyhow::Result<()> {
-    println!(rt; "timing: give the word run, or a feed's file and one of queries")?;
+    println!(rt; "timing: give the word run to measure")?;
     Ok(())
 }
 
