@@ -1,13 +1,12 @@
 -- What a program does depends on its right decisions alone, and they all say the same.
-use mathlib.Core.Path.{◌≡◌}
 use mathlib.Core.List.{List, [], ◌∷◌}
-use mathlib.Core.Logic.{◌⊎◌, inl, inr, ◌↔◌}
+use mathlib.Core.Logic.{inl, inr}
 use Prim.Native.Nat.{ℕ, ◌<◌}
 use lib.Dec.{T}
 use lib.ListN.{length, get_or}
 use Rattle.rows.specs.Rows.{Row, count_of as count, Lawful}
-use Rattle.automata.specs.Program.{Program, Proper, ProperRules, Rule, Move, mark, Decisions, Right, Makes, Enters, start, sent, Entered, Marked}
-use Rattle.automata.specs.Claims.{Agrees, Agreeing}
+use Rattle.automata.specs.Program.{Program, Proper, ProperRules, Rule, Move, mark, Decisions, Makes, Enters, start, sent, Entered, Marked}
+use Rattle.automata.specs.Claims.{Agreeing}
 use Rattle.automata.proofs.Falls.{defined, within}
 use Rattle.automata.proofs.Solutions.{settled}
 

@@ -1,13 +1,13 @@
 -- What a fall over the nodes knows.
-use mathlib.Core.Path.{◌≡◌, refl, sym, subst, subst₂, ◌∙◌}
+use mathlib.Core.Path.{◌≡◌, refl, subst, subst₂}
 use mathlib.Core.List.{List, [], ◌∷◌}
-use mathlib.Core.Logic.{◌⊎◌, inl, inr, ◌↔◌, ⊎_elim}
-use Prim.Native.Nat.{ℕ, zero, suc, ◌+◌, ◌≤◌, ◌<◌}
+use mathlib.Core.Logic.{◌⊎◌, inl, inr, ⊎_elim}
+use Prim.Native.Nat.{ℕ, suc, ◌<◌}
 use native.Mathlib.Decide.{dec_lt}
 use native.Mathlib.Omega.{arith}
 use lib.ListN.{length, get_or, get_or-eq_default}
 use Rattle.rows.specs.Rows.{Row, count_of as count, Lawful}
-use Rattle.automata.specs.Program.{Decisions, Right, Proper, ProperRules, Every, Goes, Some, Rule, Move, down, on, stay, mark, Makes, Leads, Enters, start, sent, Entered, Program}
+use Rattle.automata.specs.Program.{Decisions, Proper, ProperRules, Every, Goes, Some, Rule, Move, down, on, stay, mark, Makes, Leads, Enters, start, sent, Entered, Program}
 use Rattle.automata.specs.Claims.{Falls, Falling}
 
 goes_of : (n j : ℕ) (ms : List Move) (m : Move) → Every (λ x. Goes x n j) ms → Some (λ x. x ≡ m) ms → Goes m n j

@@ -5,7 +5,7 @@ use mathlib.Core.Logic.{◌⊎◌, inl, inr}
 use Prim.Native.Nat.{ℕ, zero, suc, ◌≤◌, ◌<◌}
 use native.Mathlib.Decide.{dec_lt}
 use native.Mathlib.Omega.{arith}
-use Rattle.rows.specs.Rows.{Row, count_of as count, depth_of as depth}
+use Rattle.rows.specs.Rows.{Row, depth_of as depth}
 
 -- one number more
 extend : (P : ℕ → Type 0) (m : ℕ) → ((u : ℕ) → u ≤ m → P u) → P (suc m) → (u : ℕ) → u ≤ suc m → P u

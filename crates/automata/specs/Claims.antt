@@ -1,7 +1,7 @@
 -- What is proved of the states of every program.
-use Rattle.std.specs.Prelude.{◌≡◌, List, [], ◌↔◌, ◌⊎◌, Bool, ℕ, suc, ◌≤◌, ◌<◌, T, length, get_or}
+use Rattle.std.specs.Prelude.{◌≡◌, List, [], ◌↔◌, ◌⊎◌, ℕ, suc, ◌≤◌, ◌<◌, T, length, get_or}
 use Rattle.rows.specs.Rows.{Row, count_of as count, Lawful}
-use Rattle.automata.specs.Program.{Formula, Decisions, Right, Risen, TrueAt, true, Rule, Move, ProperStates, Proper, ProperRules, Enters, Entered, Makes, Leads, Marked, Marks, Decides, Comes, Program}
+use Rattle.automata.specs.Program.{Formula, Decisions, Right, Risen, TrueAt, true, Move, ProperStates, Proper, Enters, Entered, Makes, Leads, Marked, Marks, Decides, Comes, Program}
 
 -- Formulas that name only what is defined settle which states hold where: there are such decisions, and no two differ.
 abbrev pub Settled : Type 0

@@ -1,5 +1,7 @@
 // Programs, and what they mean over the rows of a tree: which deciding states hold where, which sending states enter
 // where, and which nodes are marked.
+#![tactic(auto)]
+
 ghost use Rattle.std.specs.Prelude.{◌≤◌};
 ghost use Rattle.automata.specs.Program.{Program, Proper, bytes};
 ghost use Rattle.automata.specs.Claims.{Settled, Agreeing, Rising, Falling};

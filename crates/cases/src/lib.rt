@@ -1,4 +1,6 @@
 // Worked cases: texts of queries, with the nodes that they select in an example tree.
+#![tactic(auto)]
+
 ghost use Rattle.std.specs.Prelude.{◌≡◌, length};
 ghost use Rattle.cases.specs.Example.{cases, Worked};
 

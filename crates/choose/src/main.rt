@@ -1,4 +1,6 @@
 // Reads a feed and then a query from standard input, and prints what the query selects in the tree fed, or the refusal.
+#![tactic(auto)]
+
 use choosing::choose::choose;
 use choosing::chosen::Chosen;
 use std::io::Read;

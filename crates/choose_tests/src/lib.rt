@@ -1,3 +1,5 @@
+#![tactic(auto)]
+
 // Tests of the way from an input to the text that is printed.
 #[cfg(test)]
 mod tests {

@@ -1,5 +1,5 @@
 -- Lines of numbers, one more at a time.
-use Rattle.std.proofs.Common.{◌≡◌, ℕ, zero, suc, ◌+◌, ◌<◌, List, [], ◌∷◌, ◌++◌, length, get_or, take, decimal, sym, refl, ap, ◌∙◌, append_assoc, append-nil, add-one, arith}
+use Rattle.std.proofs.Common.{◌≡◌, ℕ, zero, suc, ◌+◌, ◌<◌, List, [], ◌∷◌, ◌++◌, length, get_or, take, decimal, sym, ap, ◌∙◌, append_assoc, append-nil, add-one, arith}
 use Rattle.choosing.specs.Printed.{newline, numbers_text}
 
 more : (xs : List ℕ) (i : ℕ) → i < length xs → numbers_text (take (suc i) xs) ≡ numbers_text (take i xs) ++ (decimal (get_or xs i 0) ++ newline)

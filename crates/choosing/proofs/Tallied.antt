@@ -1,5 +1,5 @@
 -- The tallies of a list of nodes say how many there are, the first and the last, and the first twelve.
-use Rattle.std.proofs.Common.{◌≡◌, ℕ, zero, suc, ◌+◌, ◌-◌, ◌<◌, ◌≤◌, min, Bool, true, false, ◌||◌, ltb, List, [], ◌∷◌, ◌++◌, length, take, IfOk, Ok, Err, Result, sym, refl, ap, ◌∙◌, subst, inl, inr, arith, length-take}
+use Rattle.std.proofs.Common.{◌≡◌, ℕ, zero, suc, ◌+◌, ◌-◌, ◌≤◌, min, Bool, false, ◌||◌, ltb, List, [], ◌∷◌, length, take, IfOk, Ok, Err, Result, refl, ap, ◌∙◌, subst, inl, inr, arith, length-take}
 use Rattle.std.proofs.lemmas.Bool.Decides.{nat_tests}
 use Rattle.tally.specs.Monoid.{marks_of}
 use Rattle.tally.specs.Values.{Capped, cap, add, Extent, spanned, Leading, leading, followed}
@@ -12,7 +12,7 @@ use Rattle.tallying.specs.Nodes.{Lists}
 use Rattle.selector.specs.Steps.{State, told_nodes}
 use Rattle.settle.specs.Settling.{Ready}
 use Rattle.choosing.specs.Choosing.{Tells}
-use Rattle.choosing.specs.Printed.{last_of, ends_of, report_text}
+use Rattle.choosing.specs.Printed.{ends_of, report_text}
 
 pub counted : (vs : List ℕ) → (marks_of (cap 0) (λ _. cap 1) add vs).number ≡ min 65535 (length vs)
 counted [] = refl

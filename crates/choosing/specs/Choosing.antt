@@ -4,8 +4,6 @@ use Rattle.rows.specs.Rows.{Row, Lawful, count_of}
 use Rattle.shape.specs.Bits.{bits_of}
 use Rattle.grammar.specs.Syntax.{Path}
 use Rattle.grammar.specs.Machine.{outcome, accepted, refused}
-use Rattle.query.specs.declared.parsed.Query.{Query}
-use Rattle.query.specs.Queries.{query_of}
 use Rattle.query.specs.Faults as query
 use Rattle.selection.specs.Selects.{Store, Selects}
 use Rattle.tallying.specs.Nodes.{Lists}

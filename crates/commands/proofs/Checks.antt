@@ -1,6 +1,6 @@
 -- The check accepts exactly the bytes of programs that keep the rules.
-use Rattle.std.proofs.Common.{◌≡◌, ℕ, zero, suc, ◌+◌, ◌-◌, ◌<◌, ◌≤◌, max, Bool, true, false, cond, not, ◌&&◌, eqb, ltb, leb, List, [], ◌∷◌, length, get_or, Some, None, Decides, Option, sym, refl, ap, ◌∙◌, subst, arith}
-use Rattle.std.proofs.lemmas.Bool.{true≢false, false≢true, and_parts, and_from, ltb-true, lt-ltb, leb-true, le-leb, eqb-true, eq-eqb, cond-true}
+use Rattle.std.proofs.Common.{◌≡◌, ℕ, zero, suc, ◌+◌, ◌-◌, ◌<◌, ◌≤◌, Bool, true, false, ◌&&◌, eqb, ltb, leb, List, [], ◌∷◌, length, get_or, Some, None, Option, sym, refl, ap, ◌∙◌, subst, arith}
+use Rattle.std.proofs.lemmas.Bool.{false≢true, and_parts, and_from, ltb-true, lt-ltb, leb-true, le-leb, eqb-true, eq-eqb, cond-true}
 use Rattle.automata.specs.Program.{Formula, Rule, Program, Proper, ProperRules, Names, Every, Goes, width, bytes}
 use Rattle.automata.specs.Program as program
 use Rattle.commands.specs.declared.command.Atom.{Atom}
@@ -10,12 +10,10 @@ use Rattle.commands.specs.declared.command.Move.TheVariants.{Down, On, Stay, Mar
 use Rattle.commands.specs.declared.command.Command.{Command}
 use Rattle.commands.specs.declared.command.Command.TheVariants.{Value, And, Or, Not, Define, When, Make, Done, End}
 use Rattle.commands.specs.declared.counts.Counts.{Counts}
-use Rattle.commands.specs.declared.counts.Formulas.{Formulas}
-use Rattle.commands.specs.declared.counts.Rules.{Rules}
 use Rattle.commands.specs.Commands.{commands_of}
 use Rattle.commands.specs.Rules.{after_deciding}
 use Rattle.commands.specs.Decoded.{formula, move, mapped, deciding, states, below, with_sending, program_of, widths, decoded}
-use Rattle.commands.specs.Checked.{if_so, thence, names, goes, opens, formulas_keep, rules_keep, few_states, all_keep, counts, summed, defined, closed, surveyed, Loadable}
+use Rattle.commands.specs.Checked.{if_so, thence, names, goes, formulas_keep, rules_keep, few_states, all_keep, counts, surveyed, Loadable}
 use Rattle.commands.proofs.Grammar.{Opens, Defines, Sends, Below, Decoded, decoded_reads, defines, sends, rest_after}
 use Rattle.commands.proofs.Grammar as reads
 use Rattle.commands.proofs.Steps.{so_value}

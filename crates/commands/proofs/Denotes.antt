@@ -1,5 +1,5 @@
 -- Bytes that are read as a program that keeps the rules are the bytes of that program.
-use Rattle.std.proofs.Common.{◌≡◌, ℕ, zero, suc, ◌+◌, ◌*◌, ◌/◌, ◌%◌, ◌^◌, ◌<◌, ◌≤◌, Bool, true, false, cond, eqb, List, [], ◌∷◌, ◌++◌, length, get_or, Some, None, Option, sym, refl, ap, ◌∙◌, subst, arith, w8, Fits}
+use Rattle.std.proofs.Common.{◌≡◌, ℕ, zero, suc, ◌+◌, ◌*◌, ◌/◌, ◌%◌, ◌<◌, ◌≤◌, Bool, true, false, cond, eqb, List, [], ◌∷◌, ◌++◌, length, get_or, Some, None, Option, sym, refl, ap, ◌∙◌, subst, arith, w8, Fits}
 use Rattle.std.proofs.lemmas.Bool.{eqb-true}
 use Rattle.automata.specs.Program.{Formula, Rule, Program, Proper, Every}
 use Rattle.automata.specs.Program as program
@@ -10,7 +10,7 @@ use Rattle.commands.specs.declared.command.Move.{Move}
 use Rattle.commands.specs.declared.command.Move.TheVariants.{Down, On, Stay, Mark}
 use Rattle.commands.specs.declared.command.Command.{Command}
 use Rattle.commands.specs.declared.command.Command.TheVariants.{Value, And, Or, Not, Define, When, Make, Done, End}
-use Rattle.commands.specs.Bytes.{Taken, taken, operands, plain, one, two, kind, kind_of}
+use Rattle.commands.specs.Bytes.{Taken, taken, operands, one, two, kind}
 use Rattle.commands.specs.Commands.{commands_of}
 use Rattle.commands.specs.Decoded.{formula, move, width, widths, decoded}
 use Rattle.commands.specs.Encoded.{command_bytes, bytes_of, move_from, postfix, deciding_commands, move_commands, rule_commands, sending_commands, program_commands, encoded}

@@ -1,20 +1,18 @@
 -- What is written is read back.
-use Rattle.std.proofs.Common.{◌≡◌, ℕ, zero, suc, ◌+◌, ◌*◌, ◌/◌, ◌%◌, ◌<◌, ◌≤◌, max, Bool, true, false, cond, ◌&&◌, eqb, ltb, leb, List, [], ◌∷◌, ◌++◌, length, Some, None, Option, sym, refl, ap, ◌∙◌, subst, append_assoc, arith, length-append}
+use Rattle.std.proofs.Common.{◌≡◌, ℕ, suc, ◌+◌, ◌*◌, ◌/◌, ◌%◌, ◌<◌, ◌≤◌, ◌&&◌, eqb, ltb, leb, List, [], ◌∷◌, ◌++◌, length, Some, None, Option, sym, refl, ap, ◌∙◌, arith, length-append}
 use Rattle.std.proofs.lemmas.Bool.{cond-true, lt-ltb, le-leb, eq-eqb, and_from}
 use Rattle.automata.specs.Program.{Formula, Rule, Program, Proper, Every, total, bytes, formula_bytes}
 use Rattle.automata.specs.Program as program
-use Rattle.commands.specs.declared.command.Kind.{Kind}
 use Rattle.commands.specs.declared.command.Kind.TheVariants.{Root, Text, Element}
 use Rattle.commands.specs.declared.command.Atom.{Atom}
 use Rattle.commands.specs.declared.command.Atom.TheVariants.{Kind as OfKind, Label, True, First, Next, Here}
-use Rattle.commands.specs.declared.command.Move.{Move}
 use Rattle.commands.specs.declared.command.Move.TheVariants.{Down, On, Stay, Mark}
 use Rattle.commands.specs.declared.command.Command.{Command}
 use Rattle.commands.specs.declared.command.Command.TheVariants.{Value, And, Or, Not, Define, When, Make, Done, End}
-use Rattle.commands.specs.Bytes.{Taken, taken}
+use Rattle.commands.specs.Bytes.{taken}
 use Rattle.commands.specs.Commands.{commands_of}
 use Rattle.commands.specs.Decoded.{formula, mapped, deciding, states, below, with_sending, program_of, width, widths, decoded}
-use Rattle.commands.specs.Encoded.{command_bytes, bytes_of, kind_from, move_from, postfix, deciding_commands, move_commands, rule_commands, sending_commands, program_commands, encoded}
+use Rattle.commands.specs.Encoded.{command_bytes, bytes_of, move_from, postfix, deciding_commands, move_commands, rule_commands, sending_commands, program_commands, encoded}
 use Rattle.commands.specs.Denotes.{ReadBack}
 use Rattle.commands.proofs.Spells.{found, commands_more, commands_none}
 

@@ -1,5 +1,5 @@
 -- States and bytes of what is read.
-use Rattle.std.proofs.Common.{◌≡◌, ℕ, suc, ◌+◌, List, [], ◌∷◌, length, refl, arith}
+use Rattle.std.proofs.Common.{◌≡◌, ℕ, suc, ◌+◌, List, length, refl, arith}
 use Rattle.automata.specs.Program.{Formula, Rule, Program, total, bytes, formula_bytes}
 use Rattle.automata.specs.Program as program
 use Rattle.commands.specs.declared.command.Atom.{Atom}
@@ -7,7 +7,6 @@ use Rattle.commands.specs.declared.command.Atom.TheVariants.{Kind as OfKind, Lab
 use Rattle.commands.specs.declared.command.Move.{Move}
 use Rattle.commands.specs.declared.command.Move.TheVariants.{Down, On, Stay, Mark}
 use Rattle.commands.specs.declared.command.Command.{Command}
-use Rattle.commands.specs.declared.command.Command.TheVariants.{Value, And, Or, Not, Define, When, Make, Done, End}
 use Rattle.commands.specs.Decoded.{formula, move, atom_width, move_width, widths}
 use Rattle.commands.specs.Checked.{defined, closed, summed}
 use Rattle.commands.proofs.Grammar.{Opens, Defines, Sends, Below}

@@ -1,5 +1,5 @@
 -- The commands that bytes spell, as far as they can be read.
-use Rattle.std.specs.Prelude.{ℕ, zero, suc, ◌+◌, List, [], ◌∷◌, length, Some, None, Option}
+use Rattle.std.specs.Prelude.{ℕ, zero, suc, List, [], ◌∷◌, length, Some, None}
 use Rattle.commands.specs.declared.command.Command.{Command}
 use Rattle.commands.specs.Bytes.{Taken, taken}
 

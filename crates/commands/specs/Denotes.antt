@@ -3,7 +3,6 @@ use Rattle.std.specs.Prelude.{◌≡◌, ℕ, ◌<◌, ◌↔◌, List, Some}
 use Rattle.automata.specs.Program.{Program, Proper, Every}
 use Rattle.commands.specs.Decoded.{decoded}
 use Rattle.commands.specs.Encoded.{encoded}
-use Rattle.commands.specs.Checked.{Loadable}
 
 -- P keeps the rules for programs, and the bytes are those of its commands
 abbrev pub Denotes : List ℕ → Program → Type 0

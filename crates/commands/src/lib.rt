@@ -1,4 +1,6 @@
 // The commands of programs, and the programs that they make up.
+#![tactic(auto)]
+
 ghost use Rattle.std.specs.Prelude.{◌≡◌};
 ghost use Rattle.commands.specs.Decoded.{width as width_of_lem};
 ghost use Rattle.commands.specs.Denotes.{ReadBack, OneProgram, Reading};

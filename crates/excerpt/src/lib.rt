@@ -1,4 +1,6 @@
 // An excerpt: the subtree of a node of any tree, as a tree of its own.
+#![tactic(auto)]
+
 ghost use Rattle.std.specs.Prelude.{◌≡◌, ◌<◌, ◌≤◌, Ok, Err};
 ghost use Rattle.rows.specs.Rows.{count_of};
 ghost use Rattle.rows.specs.Excerpts.{excerpt_of};

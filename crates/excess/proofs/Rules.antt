@@ -1,7 +1,6 @@
 -- A rule of a table of signed numbers, proved at all of its entries by one test that antt computes.
-use Rattle.std.proofs.Common.{◌≡◌, ℕ, zero, suc, ◌+◌, ◌<◌, Bool, true, false, ◌&&◌, eqb, List, [], ◌∷◌, length, get_or, ℤ, pos, negsuc, sym, refl, ap, ◌∙◌, subst, add-zero, add-suc, suc-add, zero-add, arith, w8, to_z, of_z}
+use Rattle.std.proofs.Common.{◌≡◌, ℕ, zero, suc, ◌+◌, ◌<◌, Bool, true, false, ◌&&◌, eqb, List, [], ◌∷◌, length, get_or, ℤ, pos, negsuc, sym, ap, ◌∙◌, add-zero, add-suc, suc-add, zero-add, arith, w8, to_z, of_z}
 use Rattle.std.proofs.lemmas.Bool.{and_parts, eqb-true}
-use Rattle.excess.specs.Excess.{total_of, least_of}
 
 abbrev pub eq_z : ℤ → ℤ → Bool
 eq_z (pos a) (pos b) = eqb a b

@@ -1,4 +1,6 @@
 // The excess of a byte of parentheses: openings minus closings.
+#![tactic(auto)]
+
 ghost use Rattle.std.specs.Prelude.{◌≡◌};
 ghost use Rattle.excess.specs.Excess.{total_of, least_of};
 

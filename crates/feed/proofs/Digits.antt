@@ -1,12 +1,10 @@
 -- One bit of a byte written.
-use Rattle.std.proofs.Common.{◌≡◌, ℕ, zero, suc, ◌+◌, ◌-◌, ◌*◌, ◌/◌, ◌%◌, ◌^◌, ◌<◌, ◌≤◌, Bool, true, false, eqb, List, [], ◌∷◌, ◌++◌, length, get_or, take, drop, set, sym, refl, ap, ◌∙◌, subst, ap₂, arith}
+use Rattle.std.proofs.Common.{◌≡◌, ℕ, zero, suc, ◌+◌, ◌-◌, ◌*◌, ◌/◌, ◌%◌, ◌^◌, ◌<◌, ◌≤◌, Bool, true, false, eqb, List, [], ◌∷◌, ◌++◌, length, get_or, take, drop, set, sym, refl, ap, ◌∙◌, ap₂, arith}
 use lib.Bits.{bit_and, bit_or}
 use Rattle.std.proofs.lemmas.Nat.{and_shr, or_shr, and_mod, or_mod, mod_below}
-use Rattle.std.proofs.lemmas.List.{length-take, set-append_right}
 use Rattle.excess.specs.Excess.{bits}
 use Rattle.shape.specs.Bits.{bits_of}
 use Rattle.shape.specs.Shape.{closing}
-use Rattle.shape.proofs.Bytes.{bits_length}
 use Rattle.growth.specs.Steps.{cleared}
 
 either : Bool → Bool → Bool

@@ -1,3 +1,5 @@
+#![tactic(auto)]
+
 // Tests of feeds and feed files.
 #[cfg(test)]
 mod example;

@@ -1,5 +1,7 @@
 // Turns an indented outline from standard input into a feed on standard output: a line for each node below the root, two
 // spaces a level, a name for an element or # for a text.
+#![tactic(auto)]
+
 ghost use Rattle.std.specs.Prelude.{◌≡◌, ◌+◌, ◌-◌, ◌≤◌, length};
 
 use anyhow::anyhow;

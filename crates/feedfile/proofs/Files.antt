@@ -1,20 +1,16 @@
 -- What reading a feed file tells.
-use Rattle.std.proofs.Common.{◌≡◌, ℕ, zero, suc, ◌+◌, ◌-◌, ◌*◌, ◌<◌, ◌≤◌, Bool, List, [], ◌∷◌, length, take, drop, Some, None, Ok, Err, Option, Result, sym, refl, ap, ◌∙◌, subst, arith}
-use Rattle.shape.specs.Bits.{bits_of}
-use Rattle.scan.specs.Directory.{bytes}
-use Rattle.scan.specs.declared.block.Block.{Block}
+use Rattle.std.proofs.Common.{◌≡◌, ℕ, zero, suc, ◌+◌, ◌-◌, ◌≤◌, List, [], ◌∷◌, length, drop, Some, None, Ok, Err, Option, Result, sym, refl, ap, subst, arith}
 use Rattle.growth.specs.declared.command.Command.{Command}
 use Rattle.growth.specs.declared.fault.Fault.{Fault}
-use Rattle.growth.specs.Steps.{Fed, begin_check, begun, seal_check, cleared}
-use Rattle.growth.specs.Commands.{step_check, stepped, store_after, Granted}
+use Rattle.growth.specs.Steps.{Fed, begun, seal_check}
+use Rattle.growth.specs.Commands.{step_check, stepped, store_after}
 use Rattle.growth.proofs.Histories.{feeds_show, names_stand}
 use Rattle.feedfile.specs.declared.command.FileCommand.{FileCommand}
 use Rattle.feedfile.specs.declared.command.FileCommand.TheVariants.{Feed, Seal}
 use Rattle.feedfile.specs.declared.command.FileFault.{FileFault}
-use Rattle.feedfile.specs.declared.command.FileFault.TheVariants.{Unknown, Refused}
-use Rattle.feedfile.specs.Bytes.{taken, command_of, width, with_rest}
-use Rattle.feedfile.specs.Reading.{Told, told, reading, next, granted, sealed_at, sealing, answer_of}
-use Rattle.feedfile.specs.Files.{Decodes, Ends, Tells, Grown}
+use Rattle.feedfile.specs.Bytes.{command_of, width, with_rest}
+use Rattle.feedfile.specs.Reading.{Told, reading, next, granted, sealed_at, sealing}
+use Rattle.feedfile.specs.Files.{Decodes, Ends, Tells}
 use Rattle.feedfile.specs.Claims.{ReadingTells, FileShows}
 use Rattle.feedfile.proofs.Takes.{splits, shorter}
 

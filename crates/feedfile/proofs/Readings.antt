@@ -1,5 +1,5 @@
 -- One command of a file read.
-use Rattle.std.proofs.Common.{◌≡◌, ℕ, zero, suc, ◌-◌, List, [], ◌∷◌, length, drop, Some, None, Ok, Err, Option, Result, sym, refl, ap, ◌∙◌, subst, arith}
+use Rattle.std.proofs.Common.{◌≡◌, ℕ, zero, suc, ◌-◌, List, [], ◌∷◌, length, drop, Some, None, Ok, Err, Option, Result, sym, refl, ap, ◌∙◌, arith}
 use Rattle.growth.specs.declared.command.Command.{Command}
 use Rattle.growth.specs.declared.command.Command.TheVariants.{Open, Shut, Text, Name}
 use Rattle.growth.specs.declared.fault.Fault.{Fault}
@@ -7,10 +7,9 @@ use Rattle.growth.specs.Steps.{Fed, after}
 use Rattle.growth.specs.Commands.{step_check, stepped, store_after}
 use Rattle.feedfile.specs.declared.command.FileCommand.{FileCommand}
 use Rattle.feedfile.specs.declared.command.FileCommand.TheVariants.{Feed, Seal}
-use Rattle.feedfile.specs.declared.command.FileFault.{FileFault}
 use Rattle.feedfile.specs.declared.command.FileFault.TheVariants.{Unknown, Refused}
 use Rattle.feedfile.specs.Bytes.{taken, command_of, width, with_rest}
-use Rattle.feedfile.specs.Reading.{Told, told, reading, next, granted}
+use Rattle.feedfile.specs.Reading.{told, reading, next, granted}
 use Rattle.feedfile.proofs.Takes.{Splits, splits}
 
 -- the operands passed over

@@ -1,9 +1,9 @@
 -- The first command of bytes of which the code has seen the first few.
-use Rattle.std.proofs.Common.{◌≡◌, ℕ, suc, ◌+◌, ◌-◌, ◌*◌, ◌<◌, ◌≤◌, Bool, true, false, cond, eqb, ltb, List, [], ◌∷◌, length, get_or, take, drop, Some, None, Option, sym, refl, ap, ◌∙◌, subst, arith, length-drop}
+use Rattle.std.proofs.Common.{◌≡◌, ℕ, ◌+◌, ◌-◌, ◌*◌, ◌<◌, ◌≤◌, List, [], ◌∷◌, length, get_or, take, drop, Some, None, Option, sym, refl, ap, ◌∙◌, arith, length-drop}
 use Rattle.std.proofs.lemmas.List.{take_all}
 use Rattle.growth.specs.declared.command.Command.TheVariants.{Open}
 use Rattle.feedfile.specs.declared.command.FileCommand.{FileCommand}
-use Rattle.feedfile.specs.declared.command.FileCommand.TheVariants.{Feed, Seal}
+use Rattle.feedfile.specs.declared.command.FileCommand.TheVariants.{Feed}
 use Rattle.feedfile.specs.Bytes.{Taken, taken, command_of, file_width, with_rest, label, slot}
 
 -- the bytes from n on

@@ -1,5 +1,5 @@
 -- What is proved of feed files.
-use Rattle.std.specs.Prelude.{◌≡◌, ℕ, Bool, List, length, take, Ok, Err}
+use Rattle.std.specs.Prelude.{◌≡◌, ℕ, Bool, List, length, take, Ok}
 use Rattle.shape.specs.Bits.{bits_of}
 use Rattle.scan.specs.Directory.{bytes}
 use Rattle.scan.specs.declared.block.Block.{Block}

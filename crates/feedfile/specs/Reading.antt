@@ -1,5 +1,5 @@
 -- What reading a feed file answers and leaves.
-use Rattle.std.specs.Prelude.{◌≡◌, ℕ, zero, suc, ◌+◌, ◌-◌, ◌*◌, Bool, List, [], ◌∷◌, length, Some, None, Ok, Err, Option, Result}
+use Rattle.std.specs.Prelude.{ℕ, zero, suc, ◌+◌, ◌-◌, ◌*◌, Bool, List, [], ◌∷◌, length, Some, None, Ok, Err, Option, Result}
 use Rattle.scan.specs.Directory.{bytes}
 use Rattle.scan.specs.Filling.{filled}
 use Rattle.scan.specs.declared.block.Block.{Block}

@@ -1,4 +1,6 @@
 // Feed files: the commands of a feed as bytes.
+#![tactic(auto)]
+
 pub mod command;
 mod decode;
 pub mod fault;

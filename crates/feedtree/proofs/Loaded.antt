@@ -1,5 +1,5 @@
 -- What a feed file that was read and sealed has left in memory.
-use Rattle.std.proofs.Common.{◌≡◌, ℕ, Bool, List, length, Ok, Err, Result, sym, refl, ap, ◌∙◌, subst}
+use Rattle.std.proofs.Common.{◌≡◌, ℕ, Bool, List, length, Ok, Err, Result, sym, ap, ◌∙◌, subst}
 use Rattle.tree.specs.declared.fault.Fault.{Fault}
 use Rattle.tree.specs.declared.fault.Fault.TheVariants.{Memory, NoTree, NoNode}
 use Rattle.shape.specs.Bits.{bits_of}

@@ -1,5 +1,5 @@
 -- What making a tree of a feed file answers and leaves.
-use Rattle.std.specs.Prelude.{◌≡◌, ℕ, Bool, List, length, take, Ok, Err, Result}
+use Rattle.std.specs.Prelude.{ℕ, Bool, List, length, take, Ok, Err, Result}
 use Rattle.scan.specs.Directory.{bytes}
 use Rattle.scan.specs.declared.block.Block.{Block}
 use Rattle.parens.specs.Trees.{rows_of}

@@ -1,4 +1,6 @@
 // From a feed file to its tree.
+#![tactic(auto)]
+
 ghost use Rattle.std.specs.Prelude.{◌≡◌, length, Ok, Err};
 ghost use Rattle.shape.specs.Bits.{bits_of};
 ghost use Rattle.parens.specs.Trees.{rows_of};

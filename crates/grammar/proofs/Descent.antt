@@ -1,12 +1,10 @@
 -- How the calls of a reader by recursive descent join.
-use Rattle.std.proofs.Common.{◌≡◌, ℕ, zero, suc, ◌+◌, ◌-◌, ◌<◌, ◌≤◌, Bool, true, false, ltb, List, [], ◌∷◌, length, sym, refl, ap, ◌∙◌, subst, arith}
-use Rattle.grammar.specs.declared.tokens.Symbol.TheVariants.{Slash, DoubleSlash, LeftBracket, RightBracket, LeftParen, RightParen, Star, DoubleColon}
-use Rattle.grammar.specs.Tokens.{Token, symbol, word, Placed, token, tokens_at}
-use Rattle.grammar.specs.Tokens as tokens
-use Rattle.grammar.specs.Syntax.{Axis, self, child, descendant, following_sibling, NodeTest, element, name, text, node, Path, first, more, Filter, plain, holds, Pred, some, not, and, or, axis_word, text_word, node_word, not_word, or_word, and_word, own, in_path, in_filter, in_pred}
-use Rattle.grammar.specs.Grammar.{IsTest, is_any, is_name, is_text, is_node, IsPath, is_first, is_root, is_deep, is_more, is_far, IsStep, is_axis, is_child, IsTail, is_tail, IsFilter, is_plain, is_holds, IsPred, is_conj, is_or, IsConj, is_unit, is_and, IsUnit, is_not, is_group, is_some}
-use Rattle.grammar.specs.Machine.{Before, start, past, ext, Side, no, has, conj, disj, Context, top, unit, Opened, bracket, group, negate, State, begin, due, test, pend, named, close, tested, stepped, united, either, Where, outer, inner, where_is, Move, none, to, down, up, Act, act, begins, same, AsAxis, AsTest, AsJoin, join_of, test_of, axis_of_word, shut, right, joined, on_united, on_ended, on_stepped, on_tested, typed, on_named, on_axis, on_pend, on_close, charged, on_test, on_due, lone, worded, grouped, on_begin, on_either, next, Last, whole, early, behind, ended, last, Outcome, accepted, refused, Turn, stop, go, move, turn, at_end, at_fault, run, outcome}
-use Rattle.grammar.proofs.Words.{by_test, by_axis, by_type, by_join, same_true}
+use Rattle.std.proofs.Common.{◌≡◌, ℕ, zero, suc, true, false, List, ◌∷◌, sym, refl, ap, ◌∙◌}
+use Rattle.grammar.specs.declared.tokens.Symbol.TheVariants.{Slash, DoubleSlash, LeftBracket, RightBracket, LeftParen, RightParen, Star}
+use Rattle.grammar.specs.Tokens.{symbol, word, Placed, token}
+use Rattle.grammar.specs.Syntax.{Axis, child, NodeTest, element, Path, holds, Pred, some, not, and, or, not_word, or_word, and_word}
+use Rattle.grammar.specs.Machine.{Before, start, ext, Side, no, has, Context, top, unit, Opened, bracket, group, negate, begin, due, test, pend, named, tested, stepped, united, either, Where, inner, where_is, to, begins, same, lone, refused, turn, run}
+use Rattle.grammar.proofs.Words.{by_test, same_true}
 use Rattle.grammar.specs.Descent.{Read, ok, err, PathTold, UnitTold, ConjTold, PredTold, mapped}
 use Rattle.grammar.specs.Glances.{next_is}
 use Rattle.grammar.proofs.Glance.{unit_done, not_name, not_many}

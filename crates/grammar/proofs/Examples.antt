@@ -1,5 +1,5 @@
-use Rattle.std.proofs.Common.{◌≡◌, ℕ, Bool, true, false, List, [], ◌∷◌, length, codes, refl, ap}
-use Rattle.grammar.specs.Syntax.{Axis, self, child, descendant, following_sibling, NodeTest, element, name, text, node, Path, first, more, Filter, plain, holds, Pred, some, not, and, or}
+use Rattle.std.proofs.Common.{◌≡◌, Bool, true, false, length, codes, refl, ap}
+use Rattle.grammar.specs.Syntax.{child, descendant, name, text, first, more, plain, holds, some, not, and, or}
 use Rattle.std.proofs.lemmas.Bool.{lt-ltb}
 use Rattle.grammar.specs.Tokens.{tokens_at}
 use Rattle.grammar.specs.Machine.{begin, top, Outcome, accepted, refused, run, outcome}

@@ -1,19 +1,19 @@
 -- The tokens of a text, and those of a spelling.
-use Rattle.std.proofs.Common.{◌≡◌, ℕ, zero, suc, ◌+◌, ◌-◌, ◌<◌, ◌≤◌, Bool, true, false, cond, eqb, ltb, leb, List, [], ◌∷◌, ◌++◌, length, take, drop, sym, refl, ap, ◌∙◌, subst, add-zero, zero-add, add-one, one-add, arith, lit≤, length-append, length-drop, length-take}
+use Rattle.std.proofs.Common.{◌≡◌, ℕ, zero, suc, ◌+◌, ◌-◌, ◌<◌, ◌≤◌, Bool, true, false, cond, eqb, leb, List, [], ◌∷◌, ◌++◌, length, take, drop, sym, refl, ap, ◌∙◌, subst, add-zero, one-add, arith, lit≤, length-append, length-drop, length-take}
 use Rattle.grammar.specs.declared.tokens.Symbol.TheVariants.{Slash, DoubleSlash, LeftBracket, RightBracket, LeftParen, RightParen, Star, DoubleColon}
 use Rattle.grammar.specs.Tokens as tokens
-use Rattle.grammar.specs.Syntax.{Axis, self, child, descendant, following_sibling, NodeTest, element, name, text, node, Path, first, more, Filter, plain, holds, Pred, some, not, and, or, axis_word, text_word, node_word, not_word, or_word, and_word, own, in_path, in_filter, in_pred}
+use Rattle.grammar.specs.Syntax.{Axis, self, child, descendant, following_sibling, NodeTest, element, name, text, node, Path, first, more, Filter, plain, holds, Pred, some, not, and, or, axis_word, text_word, node_word, not_word, or_word, and_word}
 use Rattle.grammar.specs.Grammar.{IsTest, is_any, is_name, is_text, is_node, IsPath, is_first, is_root, is_deep, is_more, is_far, IsStep, is_axis, is_child, IsTail, is_tail, IsFilter, is_plain, is_holds, IsPred, is_conj, is_or, IsConj, is_unit, is_and, IsUnit, is_not, is_group, is_some}
 use lib.Seq.{take-append_seam, drop-append_seam}
 use Rattle.std.specs.List.{prefix_len}
 use Rattle.std.proofs.lemmas.List.Sums.{prefix_len-le-length}
 use Rattle.std.proofs.lemmas.Bool.Decides.{nat_tests}
-use Rattle.std.proofs.lemmas.Bool.{cond_both, cond-true, cond-false, le-leb, leb-true, both_ways}
+use Rattle.std.proofs.lemmas.Bool.{cond_both, cond-true, le-leb, leb-true, both_ways}
 use Rattle.grammar.specs.declared.tokens.Symbol.{Symbol}
 use Rattle.grammar.specs.Bytes.{white, begins, named}
 use Rattle.grammar.specs.Tokens.{Token, symbol, word, Front, found, done, strange, long, first_is, name_of, front_of, Placed, token, cut, tokens_at}
-use Rattle.grammar.specs.Spelling.{Place, low, mid, high, or_wraps, and_wraps, wrap, axis_t, slash_t, test_t, path_t, filter_t, pred_t, glyph, bytes, gap, write, spell}
-use Rattle.grammar.proofs.Shortest.{sw, weight, sw_p, weight_p}
+use Rattle.grammar.specs.Spelling.{Place, low, mid, high, or_wraps, and_wraps, wrap, axis_t, slash_t, test_t, path_t, filter_t, pred_t, glyph, write}
+use Rattle.grammar.proofs.Shortest.{weight, sw_p, weight_p}
 use Rattle.grammar.proofs.Respell.{after, lay}
 
 -- ---- words

@@ -1,11 +1,10 @@
 -- The tokens of a spelling derive its query.
-use Rattle.std.proofs.Common.{◌≡◌, ℕ, zero, suc, ◌+◌, ◌-◌, ◌<◌, ◌≤◌, max, Bool, true, false, ltb, List, [], ◌∷◌, length, sym, refl, ap, ◌∙◌, subst, arith}
-use Rattle.grammar.specs.declared.tokens.Symbol.TheVariants.{Slash, DoubleSlash, LeftBracket, RightBracket, LeftParen, RightParen, Star, DoubleColon}
-use Rattle.grammar.specs.Tokens.{Token, symbol, word, Placed, token, tokens_at}
-use Rattle.grammar.specs.Tokens as tokens
-use Rattle.grammar.specs.Syntax.{Axis, self, child, descendant, following_sibling, NodeTest, element, name, text, node, Path, first, more, Filter, plain, holds, Pred, some, not, and, or, axis_word, text_word, node_word, not_word, or_word, and_word, own, in_path, in_filter, in_pred}
-use Rattle.grammar.specs.Grammar.{IsTest, is_any, is_name, is_text, is_node, IsPath, is_first, is_root, is_deep, is_more, is_far, IsStep, is_axis, is_child, IsTail, is_tail, IsFilter, is_plain, is_holds, IsPred, is_conj, is_or, IsConj, is_unit, is_and, IsUnit, is_not, is_group, is_some}
-use Rattle.grammar.specs.Spelling.{Place, low, mid, high, or_wraps, and_wraps, wrap, axis_t, slash_t, test_t, path_t, filter_t, pred_t, glyph, bytes, gap, write, spell}
+use Rattle.std.proofs.Common.{ℕ, zero, suc, ◌+◌, ◌≤◌, true, false, List, [], ◌∷◌, length, refl, arith}
+use Rattle.grammar.specs.declared.tokens.Symbol.TheVariants.{LeftBracket, RightBracket, LeftParen, RightParen}
+use Rattle.grammar.specs.Tokens.{Token, symbol, word, Placed, token}
+use Rattle.grammar.specs.Syntax.{Axis, self, child, descendant, following_sibling, NodeTest, element, name, text, node, Path, first, more, Filter, plain, holds, Pred, some, not, and, or, not_word, or_word, and_word}
+use Rattle.grammar.specs.Grammar.{is_any, is_name, is_text, is_node, IsPath, is_first, is_root, is_deep, is_more, is_far, is_axis, is_child, IsTail, is_tail, IsFilter, is_plain, is_holds, IsPred, is_conj, is_or, IsConj, is_unit, is_and, IsUnit, is_not, is_group, is_some}
+use Rattle.grammar.specs.Spelling.{Place, low, mid, high, axis_t, slash_t, test_t, path_t, filter_t, pred_t, bytes, gap}
 use Rattle.grammar.proofs.Shortest.{lev_p, lev_f, lev_d}
 
 abbrev pub after : ℕ → Token → List Token → ℕ

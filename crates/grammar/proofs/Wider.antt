@@ -1,10 +1,8 @@
 -- More levels do as well, and no tokens are two queries.
-use Rattle.std.proofs.Common.{◌≡◌, ℕ, zero, suc, ◌+◌, ◌-◌, ◌<◌, ◌≤◌, Bool, true, false, ltb, List, [], ◌∷◌, length, sym, refl, ap, ◌∙◌, subst, arith}
-use Rattle.grammar.specs.declared.tokens.Symbol.TheVariants.{Slash, DoubleSlash, LeftBracket, RightBracket, LeftParen, RightParen, Star, DoubleColon}
-use Rattle.grammar.specs.Tokens.{Token, symbol, word, Placed, token, tokens_at}
-use Rattle.grammar.specs.Tokens as tokens
-use Rattle.grammar.specs.Syntax.{Axis, self, child, descendant, following_sibling, NodeTest, element, name, text, node, Path, first, more, Filter, plain, holds, Pred, some, not, and, or, axis_word, text_word, node_word, not_word, or_word, and_word, own, in_path, in_filter, in_pred}
-use Rattle.grammar.specs.Grammar.{IsTest, is_any, is_name, is_text, is_node, IsPath, is_first, is_root, is_deep, is_more, is_far, IsStep, is_axis, is_child, IsTail, is_tail, IsFilter, is_plain, is_holds, IsPred, is_conj, is_or, IsConj, is_unit, is_and, IsUnit, is_not, is_group, is_some}
+use Rattle.std.proofs.Common.{ℕ, zero, suc, ◌+◌, ◌≤◌, List, sym, ◌∙◌, arith}
+use Rattle.grammar.specs.Tokens.{Placed}
+use Rattle.grammar.specs.Syntax.{Axis, NodeTest, Path, Filter, Pred, own, in_path}
+use Rattle.grammar.specs.Grammar.{IsPath, is_first, is_root, is_deep, is_more, is_far, IsStep, is_axis, is_child, IsTail, is_tail, IsFilter, is_plain, is_holds, IsPred, is_conj, is_or, IsConj, is_unit, is_and, IsUnit, is_not, is_group, is_some}
 use Rattle.grammar.specs.Claims.{Wider, OneQuery}
 use Rattle.grammar.proofs.Whole.{accepts}
 

@@ -1,5 +1,5 @@
 -- The words of the language.
-use Rattle.std.proofs.Common.{◌≡◌, ℕ, Bool, true, false, cond, ◌&&◌, eqb, List, [], ◌∷◌, sym, refl, ap, ◌∙◌, subst, arith}
+use Rattle.std.proofs.Common.{◌≡◌, ℕ, Bool, true, false, eqb, List, [], ◌∷◌, refl, ap, ◌∙◌, arith}
 use Rattle.std.proofs.lemmas.Bool.{eqb-true, eq-eqb, and_parts, and_from, cond_both}
 use Rattle.grammar.specs.Syntax.{Axis, self, child, descendant, following_sibling, axis_word, text_word, node_word, or_word, and_word}
 use Rattle.grammar.specs.Machine.{same, AsAxis, is, axis_of_word, AsTest, istext, isnode, test_of, AsJoin, isor, isand, join_of}

@@ -1,13 +1,9 @@
 -- What a reader by recursive descent says of a call: which state the machine comes to, whatever surrounds the call.
 -- e is the place of the end, l the levels left, o and i the steps left outside and inside, ts the tokens to come.
-use Rattle.std.specs.Prelude.{◌≡◌, ℕ, zero, suc, ◌+◌, ◌-◌, ◌<◌, ◌≤◌, Bool, true, false, ltb, List, [], ◌∷◌, length, refl}
-use Rattle.std.proofs.Common.{sym, ap, subst, ◌∙◌, arith}
-use Rattle.grammar.specs.declared.tokens.Symbol.TheVariants.{Slash, DoubleSlash, LeftBracket, RightBracket, LeftParen, RightParen, Star, DoubleColon}
-use Rattle.grammar.specs.Tokens.{Token, symbol, word, Placed, token, tokens_at}
-use Rattle.grammar.specs.Tokens as tokens
-use Rattle.grammar.specs.Syntax.{Axis, self, child, descendant, following_sibling, NodeTest, element, name, text, node, Path, first, more, Filter, plain, holds, Pred, some, not, and, or, axis_word, text_word, node_word, not_word, or_word, and_word, own, in_path, in_filter, in_pred}
-use Rattle.grammar.specs.Grammar.{IsTest, is_any, is_name, is_text, is_node, IsPath, is_first, is_root, is_deep, is_more, is_far, IsStep, is_axis, is_child, IsTail, is_tail, IsFilter, is_plain, is_holds, IsPred, is_conj, is_or, IsConj, is_unit, is_and, IsUnit, is_not, is_group, is_some}
-use Rattle.grammar.specs.Machine.{Before, start, past, ext, Side, no, has, conj, disj, Context, top, unit, Opened, bracket, group, negate, State, begin, due, test, pend, named, close, tested, stepped, united, either, Where, outer, inner, where_is, Move, none, to, down, up, Act, act, begins, same, AsAxis, AsTest, AsJoin, join_of, test_of, axis_of_word, shut, right, joined, on_united, on_ended, on_stepped, on_tested, typed, on_named, on_axis, on_pend, on_close, charged, on_test, on_due, lone, worded, grouped, on_begin, on_either, next, Last, whole, early, behind, ended, last, Outcome, accepted, refused, Turn, stop, go, move, turn, at_end, at_fault, run, outcome}
+use Rattle.std.specs.Prelude.{◌≡◌, ℕ, List}
+use Rattle.grammar.specs.Tokens.{Placed}
+use Rattle.grammar.specs.Syntax.{Path, Pred}
+use Rattle.grammar.specs.Machine.{Side, no, conj, disj, Context, unit, Opened, begin, stepped, united, Where, where_is, refused, run}
 
 -- what was read, the steps left and the tokens after it; or a code and a place
 pub data Read (X : Type 0) : Type 0 where

@@ -5,7 +5,7 @@
 --   Test  = "*" | Name | "text" "(" ")" | "node" "(" ")"
 --   Pred  = Conj { "or" Conj }     Conj = Unit { "and" Unit }
 --   Unit  = "not" "(" Pred ")" | "(" Pred ")" | Query
-use Rattle.std.specs.Prelude.{◌≡◌, ℕ, suc, Bool, true, false, List, [], ◌∷◌}
+use Rattle.std.specs.Prelude.{◌≡◌, ℕ, suc, true, false, List, ◌∷◌}
 use Rattle.grammar.specs.declared.tokens.Symbol.TheVariants.{Slash, DoubleSlash, LeftBracket, RightBracket, LeftParen, RightParen, Star, DoubleColon}
 use Rattle.grammar.specs.Tokens.{symbol, word, Placed, token}
 use Rattle.grammar.specs.Syntax.{Axis, child, descendant, NodeTest, element, name, text, node, Path, first, more, Filter, plain, holds, Pred, some, not, and, or, axis_word, text_word, node_word, not_word, or_word, and_word}

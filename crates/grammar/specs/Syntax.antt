@@ -1,5 +1,5 @@
 -- Queries. A path is built from its first step on, as `or` and `and` are; grouping is not kept.
-use Rattle.std.specs.Prelude.{ℕ, suc, ◌+◌, Bool, true, false, List, [], ◌∷◌}
+use Rattle.std.specs.Prelude.{ℕ, ◌+◌, Bool, List, [], ◌∷◌}
 
 pub data Axis : Type 0 where
   self : Axis

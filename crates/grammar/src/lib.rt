@@ -1,4 +1,6 @@
 // The language of queries: tokens, syntax, grammar and limits, what a text is read as, and the short spelling.
+#![tactic(auto)]
+
 ghost use Rattle.std.specs.Prelude.{◌≡◌, ℕ, ◌<◌, ◌≤◌, List, length};
 ghost use Rattle.grammar.specs.Syntax.{Path};
 ghost use Rattle.grammar.specs.Machine.{outcome, accepted, refused};

@@ -1,13 +1,12 @@
 -- What each command keeps of the rows that a feed holds.
-use Rattle.std.proofs.Common.{◌≡◌, ℕ, zero, suc, ◌+◌, ◌-◌, ◌*◌, ◌<◌, ◌≤◌, Bool, true, false, cond, ◌&&◌, eqb, ltb, leb, List, [], ◌∷◌, ◌++◌, map, length, take, set, Ok, Err, sym, refl, ap, ◌∙◌, subst, ap₂, append_assoc, add-one, arith, length-append, length-set}
+use Rattle.std.proofs.Common.{◌≡◌, ℕ, zero, suc, ◌+◌, ◌-◌, ◌<◌, ◌≤◌, Bool, true, false, cond, eqb, List, [], ◌∷◌, ◌++◌, length, take, set, Ok, sym, refl, ap, ◌∙◌, append_assoc, arith, length-set}
 use Rattle.std.proofs.lemmas.Bool.Decides.{nat_tests}
-use Rattle.std.proofs.lemmas.Bool.{and_parts, and_from, leb-true, eqb-true, ltb-false}
-use Rattle.std.proofs.lemmas.List.{take_more_set, take-set-le, map_push, length_push}
-use Rattle.rows.specs.Rows.{Row, row, lone}
-use Rattle.rows.specs.Lawful.{IsLawful, lawful, follow, reach, inner_label}
+use Rattle.std.proofs.lemmas.Bool.{and_parts, and_from}
+use Rattle.std.proofs.lemmas.List.{take_more_set, map_push, length_push}
+use Rattle.rows.specs.Rows.{Row, row}
+use Rattle.rows.specs.Lawful.{IsLawful, follow, reach, inner_label}
 use Rattle.shape.specs.Shape.{closing, parens_onto, labels_of}
-use Rattle.growth.specs.Steps.{Fed, begin_check, begun, room, open_check, opened, text_check, texted, shut_check, shut, named}
-use Rattle.growth.specs.Store.{name_check}
+use Rattle.growth.specs.Steps.{Fed, room}
 use Rattle.growth.specs.Holding.{until, deepest_from, deepest, Holds}
 use Rattle.growth.specs.Claims.{ThenDue, BegunHolds, OpenedHolds, TextedHolds, ShutHolds, NamedHolds}
 use Rattle.growth.proofs.Room.{roomy}

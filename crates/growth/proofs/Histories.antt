@@ -1,5 +1,5 @@
 -- Sequences of commands: the rows that a feed then holds, its names, and what its tree shows.
-use Rattle.std.proofs.Common.{◌≡◌, ℕ, zero, suc, ◌+◌, ◌<◌, ◌≤◌, Bool, true, false, List, [], ◌∷◌, ◌++◌, length, get_or, take, set, Ok, Err, sym, refl, ap, ◌∙◌, subst, ⊎_elim, append_assoc, append-nil, arith, length-set}
+use Rattle.std.proofs.Common.{◌≡◌, ℕ, zero, suc, ◌+◌, ◌<◌, true, false, List, [], ◌∷◌, ◌++◌, length, get_or, take, set, Ok, sym, ap, ◌∙◌, subst, ⊎_elim, append_assoc, append-nil, arith, length-set}
 use Rattle.std.specs.Str.{bytes_eq}
 use Rattle.std.proofs.lemmas.Bool.Decides.{nat_tests}
 use Rattle.std.proofs.lemmas.Slice.Eq.{bytes_eq-Decides}
@@ -12,7 +12,7 @@ use Rattle.growth.specs.declared.command.Command.{Command}
 use Rattle.growth.specs.declared.command.Command.TheVariants.{Open, Shut, Text, Name}
 use Rattle.growth.specs.Steps.{Fed, begun, opened, texted, shut, named}
 use Rattle.growth.specs.Store.{name_check}
-use Rattle.growth.specs.Commands.{rows_fed, fed_rows, Granted, stepped, store_after}
+use Rattle.growth.specs.Commands.{rows_fed, fed_rows, Granted}
 use Rattle.growth.specs.Holding.{Holds, Names}
 use Rattle.growth.specs.Claims.{CommandsHold, FeedsShow, NamesStand}
 use Rattle.growth.proofs.Growth.{begun_holds, opened_holds, texted_holds, shut_holds, named_holds}

@@ -1,9 +1,9 @@
 -- What the memory of a sealed feed shows.
-use Rattle.std.proofs.Common.{◌≡◌, ℕ, zero, suc, ◌+◌, ◌-◌, ◌*◌, ◌/◌, ◌<◌, ◌≤◌, min, Bool, true, false, cond, ◌||◌, ltb, List, [], ◌∷◌, ◌++◌, map, length, take, drop, Ok, Err, sym, refl, ap, ◌∙◌, subst, ap₂, arith, length-append, length-drop, length-take}
+use Rattle.std.proofs.Common.{◌≡◌, ℕ, zero, suc, ◌+◌, ◌-◌, ◌*◌, ◌≤◌, Bool, false, ◌||◌, ltb, List, [], ◌∷◌, ◌++◌, length, take, drop, sym, refl, ap, ◌∙◌, arith, length-append, length-take}
 use lib.ListN.{length-map}
 use Rattle.std.proofs.lemmas.Bool.Decides.{nat_tests}
 use Rattle.std.proofs.lemmas.Bool.{cond-false}
-use Rattle.std.proofs.lemmas.List.{take_at, take-append-le}
+use Rattle.std.proofs.lemmas.List.{take_at}
 use Rattle.rows.specs.Rows.{Row}
 use Rattle.rows.proofs.Laws.{to_lawful}
 use Rattle.excess.specs.Excess.{bits}
@@ -12,13 +12,9 @@ use Rattle.shape.specs.Shape.{closing, parens_onto, labels_of}
 use Rattle.shape.proofs.Bytes.{bits_length}
 use Rattle.scan.specs.Directory.{blocks, bytes, directory_of}
 use Rattle.scan.specs.Filling.{short, filled}
-use Rattle.scan.specs.declared.block.Block.{Block}
 use Rattle.scan.proofs.Blocks.{directory_length}
-use Rattle.parens.specs.Trees.{rows_of, OfTree}
-use Rattle.parens.specs.Loading.{Enough, Fronts}
 use Rattle.parens.proofs.Decided.{tree_of_rows}
-use Rattle.growth.specs.Steps.{Fed, seal_check, cleared}
-use Rattle.growth.specs.Holding.{Holds}
+use Rattle.growth.specs.Steps.{cleared}
 use Rattle.growth.specs.Claims.{SealedShows}
 use Rattle.growth.proofs.Growth.{then_due}
 

@@ -1,5 +1,5 @@
 -- What is proved of feeds.
-use Rattle.std.specs.Prelude.{◌≡◌, ℕ, ◌*◌, Bool, List, [], ◌∷◌, ◌++◌, length, take, Ok, Err}
+use Rattle.std.specs.Prelude.{◌≡◌, ℕ, ◌*◌, Bool, List, [], ◌∷◌, ◌++◌, length, take, Ok}
 use Rattle.rows.specs.Rows.{Row, row, lone}
 use Rattle.shape.specs.Bits.{bits_of}
 use Rattle.shape.specs.Shape.{closing, parens_onto}

@@ -1,5 +1,5 @@
 -- Sequences of commands, and the rows that they feed.
-use Rattle.std.specs.Prelude.{◌≡◌, ℕ, ◌+◌, ◌-◌, List, [], ◌∷◌, Ok, Err, Result}
+use Rattle.std.specs.Prelude.{◌≡◌, ℕ, ◌+◌, ◌-◌, List, [], ◌∷◌, Ok, Result}
 use Rattle.rows.specs.Rows.{Row, row}
 use Rattle.growth.specs.declared.fault.Fault.{Fault}
 use Rattle.growth.specs.declared.command.Command.{Command}

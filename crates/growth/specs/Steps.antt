@@ -1,9 +1,9 @@
 -- What the commands of a feed answer and leave.
-use Rattle.std.specs.Prelude.{◌≡◌, ℕ, suc, ◌+◌, ◌-◌, ◌*◌, Bool, true, false, cond, ◌&&◌, ◌||◌, List, [], ◌∷◌, ◌++◌, length, take, drop, Ok, Err, Result, nat_le, nat_lt, slice_set}
+use Rattle.std.specs.Prelude.{ℕ, ◌+◌, ◌-◌, ◌*◌, Bool, true, false, cond, ◌||◌, List, ◌++◌, length, take, drop, Ok, Err, Result, nat_le, nat_lt, slice_set}
 use Rattle.shape.specs.Shape.{closing}
 use Rattle.scan.specs.Directory.{blocks}
 use Rattle.growth.specs.declared.fault.Fault.{Fault}
-use Rattle.growth.specs.declared.fault.Fault.TheVariants.{Slot, Label, Full, Memory, RootOnly, StillOpen}
+use Rattle.growth.specs.declared.fault.Fault.TheVariants.{Label, Full, Memory, RootOnly, StillOpen}
 
 -- the numbers of a feed, and what its memory holds: parentheses and labels
 pub record Fed : Type 0 where

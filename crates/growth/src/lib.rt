@@ -1,4 +1,6 @@
 // What a feed takes and refuses, and what is proved of it: the rows that its commands feed, its names and the tree it makes.
+#![tactic(auto)]
+
 ghost use Rattle.std.specs.Prelude.{◌≡◌};
 ghost use Rattle.growth.specs.Faults.{code_of};
 ghost use Rattle.growth.specs.Claims.{ThenDue, CommandsHold, SealedShows, FeedsShow, NamesStand};

@@ -1,5 +1,5 @@
 -- What the words of the work area mean after any list of calls.
-use Rattle.std.proofs.Common.{◌≡◌, ℕ, ◌+◌, ◌-◌, ◌<◌, ◌≤◌, ◌↔◌, List, [], ◌∷◌, length, Some, None, Option, sym, refl, ap, ◌∙◌, subst, arith}
+use Rattle.std.proofs.Common.{◌≡◌, ℕ, ◌-◌, ◌≤◌, List, Some, None, Option, sym, ap, ◌∙◌, subst, arith}
 use mathlib.Core.Logic.Iff
 use Rattle.rows.specs.Rows.{Row, count_of as count, Lawful as LawfulRows}
 use Rattle.automata.specs.Program.{Program, Comes}
@@ -15,7 +15,7 @@ use Rattle.selector.specs.declared.phase.Phase.TheVariants.{Empty, Rising, Falli
 use Rattle.selector.specs.Steps.{State}
 use Rattle.history.specs.History.{Progress}
 use Rattle.history.specs.Bits.{WordsMean}
-use Rattle.history.proofs.Stages.{Stage, Held, rules, FallingWords, RisingSo, FallingSo, SettledSo}
+use Rattle.history.proofs.Stages.{Stage, Held, rules, FallingWords, RisingSo}
 
 same_some : (o : Option (List ℕ)) (a b : List ℕ) → o ≡ Some a → o ≡ Some b → a ≡ b
 same_some o a b p q = cc

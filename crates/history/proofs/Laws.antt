@@ -1,14 +1,12 @@
 -- The law of any list of calls.
-use Rattle.std.proofs.Common.{◌≡◌, ℕ, zero, suc, ◌+◌, ◌-◌, ◌*◌, ◌/◌, ◌%◌, ◌<◌, ◌≤◌, Bool, true, false, cond, ◌&&◌, eqb, leb, ◌⊎◌, List, [], ◌∷◌, ◌++◌, length, get_or, replicate, Some, None, Option, sym, refl, ap, ◌∙◌, subst, subst₂, inl, inr, ⊎_elim, arith}
+use Rattle.std.proofs.Common.{◌≡◌, ℕ, zero, suc, ◌+◌, ◌-◌, ◌≤◌, Bool, true, false, cond, ◌&&◌, leb, List, [], ◌∷◌, ◌++◌, length, replicate, Some, None, Option, sym, refl, ap, ◌∙◌, subst, subst₂, inl, inr, arith}
 use lib.ListN.{length-replicate}
-use Rattle.std.proofs.lemmas.Bool.{false≢true, eq-eqb, le-leb, leb-true, and_parts, and_from}
+use Rattle.std.proofs.lemmas.Bool.{false≢true, le-leb, leb-true, and_parts, and_from}
 use Rattle.rows.specs.Rows.{Row, count_of as count, Lawful as LawfulRows}
 use Rattle.commands.specs.declared.command.Command.{Command}
 use Rattle.commands.specs.Commands.{commands_of}
-use Rattle.commands.specs.Checked.{accepted, Loadable}
-use Rattle.grammar.specs.Syntax.{Path}
-use Rattle.selection.specs.Selects.{Store, Selects}
-use Rattle.translation.specs.Translation.{Translation}
+use Rattle.commands.specs.Checked.{accepted}
+use Rattle.selection.specs.Selects.{Selects}
 use Rattle.commands.specs.Denotes.{Denotes}
 use Rattle.commands.proofs.Denotes.{denoted, loads}
 use Rattle.automata.specs.Program.{Program, Marked, Marks}
@@ -27,15 +25,15 @@ use Rattle.selector.specs.Codes.{bad_program}
 use Rattle.selector.specs.declared.phase.Phase.{Phase}
 use Rattle.selector.specs.declared.phase.Phase.TheVariants.{Empty, Rising, Falling, Settled}
 use Rattle.selector.specs.declared.fault.Fault.{Fault}
-use Rattle.selector.specs.declared.fault.Fault.TheVariants.{NoProgram, OtherTree, SmallWork, WrongPhase, NoSpan}
-use Rattle.selector.specs.Calls.{Call, load, rise, fall, tally, other, Answer, refused, loaded, left, value}
-use Rattle.selector.specs.Steps.{State, refusal, unready, unless_so, before, state_after, words_after, fresh, told_nodes}
+use Rattle.selector.specs.declared.fault.Fault.TheVariants.{NoSpan}
+use Rattle.selector.specs.Calls.{Call, load, rise, fall, tally, other, Answer, value}
+use Rattle.selector.specs.Steps.{State, refusal, unless_so, before, state_after, words_after, fresh}
 use Rattle.history.specs.History.{Turn, Progress, start, granted, counted, after, progress, reply_by, reply, Ran}
 use Rattle.history.specs.Law.{Due, Told, Fair, Bracketing, one, two, first, last, total, Among, Adjoin, NoLoad, Lawful}
 use Rattle.history.specs.Bits.{WordsMean}
 use Rattle.history.proofs.Bits.{words_mean}
 use Rattle.history.proofs.Loads.{accepted_loads, loads_accepted}
-use Rattle.history.proofs.Stages.{Stage, Held, mk, unready_is, step, length_after, rules, FallingWords, LoadedSo, RisingSo, FallingSo, SettledSo}
+use Rattle.history.proofs.Stages.{Stage, Held, mk, unready_is, step, length_after, rules, FallingWords, SettledSo}
 
 -- the words that a program settles on, over zeros
 abbrev settled : List Row → List ℕ → List ℕ

@@ -1,5 +1,5 @@
 -- Bytes are accepted exactly when they mean a program that keeps the rules.
-use Rattle.std.proofs.Common.{◌≡◌, ℕ, Bool, true, false, ◌&&◌, leb, List, length, Some, None, Option, refl, ap, ◌∙◌}
+use Rattle.std.proofs.Common.{◌≡◌, ℕ, Bool, true, leb, List, length, Some, None, Option, refl, ap, ◌∙◌}
 use Rattle.std.proofs.lemmas.Bool.{false≢true, le-leb, leb-true, and_parts, and_from}
 use Rattle.commands.specs.declared.counts.Counts.{Counts}
 use Rattle.commands.specs.Commands.{commands_of}

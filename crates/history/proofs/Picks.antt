@@ -1,5 +1,5 @@
 -- A tally of the first kind, and of a later one.
-use Rattle.std.proofs.Common.{◌≡◌, ℕ, zero, suc, List, Ok, Err, Option, Result, sym, refl, ap, ◌∙◌, subst, arith}
+use Rattle.std.proofs.Common.{◌≡◌, ℕ, zero, suc, List, Ok, Option, Result, subst, arith}
 use Rattle.tally.specs.Monoid.{marks_of}
 use Rattle.selector.specs.declared.fault.Fault.{Fault}
 use Rattle.selector.specs.Steps.{outcome}

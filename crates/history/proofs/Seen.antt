@@ -1,16 +1,16 @@
 -- One turn more, as kind i sees it.
-use Rattle.std.proofs.Common.{◌≡◌, ℕ, zero, suc, ◌+◌, ◌-◌, ◌<◌, ◌≤◌, min, Bool, true, false, cond, eqb, List, [], ◌∷◌, ◌++◌, length, get_or, take, set, Some, None, Ok, Err, Option, Result, sym, refl, ap, ◌∙◌, subst, add-one, arith}
+use Rattle.std.proofs.Common.{◌≡◌, ℕ, zero, suc, ◌+◌, ◌<◌, min, Bool, true, false, cond, eqb, List, [], ◌∷◌, ◌++◌, length, get_or, take, set, Some, None, Ok, Err, Option, Result, refl, ap, ◌∙◌, subst, add-one, arith}
 use Rattle.std.proofs.lemmas.Bool.{eqb-true}
 use Rattle.tally.specs.Monoid.{marks_of}
 use Rattle.selector.specs.declared.fault.Fault.{Fault}
-use Rattle.selector.specs.Calls.{Call, tally, other, Answer, refused, value, told}
+use Rattle.selector.specs.Calls.{tally, other, refused, value}
 use Rattle.rows.specs.Rows.{Row, count_of as count}
-use Rattle.selector.specs.Steps.{State, refusal, state_after, words_after, granted_or, outcome, valued, told_nodes}
+use Rattle.selector.specs.Steps.{State, refusal, state_after, words_after, outcome, valued, told_nodes}
 use Rattle.history.specs.History.{Turn, reply, reply_by}
 use Rattle.history.proofs.Turns.{granted_same}
 use Rattle.history.specs.declared.calls.Call.{Call as Held}
 use Rattle.history.specs.declared.calls.Answer.{Answer as Given}
-use Rattle.history.specs.declared.calls.Answer.TheVariants.{Refused, Loaded, Left, Value}
+use Rattle.history.specs.declared.calls.Answer.TheVariants.{Refused, Value}
 use Rattle.history.specs.Views.{turn_by, turns_by, answer_by}
 
 more : {S V : Type 0} (n : ℕ) (f : S → V) (i : ℕ) (cs : List Held) (gs : List (Given S)) (d : Held) (g : Given S) → i < length cs → i < length gs →

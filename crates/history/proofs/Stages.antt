@@ -1,5 +1,5 @@
 -- What holds of a selector and its work area after any list of calls, by the progress of its granted calls.
-use Rattle.std.proofs.Common.{◌≡◌, ℕ, zero, suc, ◌+◌, ◌-◌, ◌<◌, ◌≤◌, Bool, true, false, cond, ◌&&◌, eqb, leb, List, [], ◌∷◌, ◌++◌, length, get_or, Some, None, Option, sym, refl, ap, ◌∙◌, subst, ⊎_elim, arith}
+use Rattle.std.proofs.Common.{◌≡◌, ℕ, ◌+◌, ◌-◌, ◌<◌, ◌≤◌, Bool, true, false, cond, eqb, leb, List, length, Some, None, Option, sym, refl, ap, ◌∙◌, subst, ⊎_elim, arith}
 use Rattle.std.proofs.lemmas.Bool.{eq-eqb, le-leb, eqb-true, eqb-false, cases_lt}
 use Rattle.rows.specs.Rows.{Row, count_of as count}
 use Rattle.commands.specs.declared.command.Command.{Command}
@@ -15,9 +15,9 @@ use Rattle.selector.specs.Codes.{bad_program}
 use Rattle.selector.specs.declared.phase.Phase.{Phase}
 use Rattle.selector.specs.declared.phase.Phase.TheVariants.{Empty, Rising, Falling, Settled}
 use Rattle.selector.specs.declared.fault.Fault.{Fault}
-use Rattle.selector.specs.declared.fault.Fault.TheVariants.{NoProgram, OtherTree, SmallWork, WrongPhase, NoSpan}
+use Rattle.selector.specs.declared.fault.Fault.TheVariants.{NoProgram, OtherTree, SmallWork, WrongPhase}
 use Rattle.selector.specs.Calls.{Call, load, rise, fall, tally, other}
-use Rattle.selector.specs.Steps.{State, refusal, unready, unless_so, before, is_loaded, granted_or, moved, rewritten, phase_after, phase_words, state_after, words_after}
+use Rattle.selector.specs.Steps.{State, refusal, unready, unless_so, before, is_loaded, granted_or, moved, rewritten, phase_words, state_after, words_after}
 use Rattle.history.specs.History.{Progress, granted, counted, reply_by, reply}
 use Rattle.sweep.proofs.Lengths.{length_fallen}
 

@@ -1,10 +1,9 @@
 -- One turn more of a run.
-use Rattle.std.proofs.Common.{◌≡◌, ℕ, zero, suc, ◌+◌, ◌<◌, ◌≤◌, min, List, [], ◌∷◌, ◌++◌, length, get_or, take, set, Some, None, Ok, Err, Option, Result, sym, refl, ap, ◌∙◌, subst, add-one, arith}
+use Rattle.std.proofs.Common.{◌≡◌, ℕ, List, [], ◌∷◌, ◌++◌, Some, None, Option, refl, ap, ◌∙◌}
 use Rattle.selector.specs.declared.fault.Fault.{Fault}
-use Rattle.selector.specs.Calls.{Call, tally, Answer, refused}
-use Rattle.selector.specs.Steps.{State, state_after, words_after, granted_or, outcome}
+use Rattle.selector.specs.Steps.{State, state_after, words_after, granted_or}
 use Rattle.rows.specs.Rows.{Row}
-use Rattle.history.specs.History.{Turn, reply, reply_by, Ran}
+use Rattle.history.specs.History.{Turn, reply, Ran}
 
 module _ {V : Type 0} (empty : V) (mark : ℕ → V) (join : V → V → V) (rows : List Row) where
   pub ran_more : (ts : List (Turn V)) (t : Turn V) (s : State) (ws : List ℕ) (s' : State) (ws' : List ℕ) (s'' : State) (ws'' : List ℕ) → Ran empty mark join rows s ws ts s' ws' →

@@ -1,5 +1,5 @@
 -- Runs of calls from a new selector, and what their granted calls amount to.
-use Rattle.std.specs.Prelude.{◌≡◌, ℕ, ◌+◌, ◌-◌, Bool, true, false, List, [], ◌∷◌, length, Some, None, Option}
+use Rattle.std.specs.Prelude.{◌≡◌, ℕ, ◌+◌, Bool, true, false, List, [], ◌∷◌, length, Some, None, Option}
 use Rattle.selector.specs.declared.fault.Fault.{Fault}
 use Rattle.selector.specs.Calls.{Call, load, rise, fall, tally, other, Answer, refused, loaded, left, value, told}
 use Rattle.selector.specs.Steps.{State, refusal, state_after, words_after, left_over, told_nodes}

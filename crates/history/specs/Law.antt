@@ -1,5 +1,5 @@
 -- The law of the selector over any list of calls.
-use Rattle.std.specs.Prelude.{◌≡◌, ℕ, ◌-◌, ◌≤◌, true, ◌⊎◌, ◌↔◌, List, [], ◌∷◌, ◌++◌, Some, None, Option, ◌≢◌}
+use Rattle.std.specs.Prelude.{◌≡◌, ℕ, ◌-◌, ◌≤◌, true, ◌⊎◌, ◌↔◌, List, [], ◌∷◌, ◌++◌, Some, ◌≢◌}
 use Rattle.rows.specs.Rows.{Row, count_of as count}
 use Rattle.automata.specs.Program.{Program, Marks}
 use Rattle.grammar.specs.Syntax.{Path}
@@ -9,7 +9,7 @@ use Rattle.commands.specs.Checked.{Loadable}
 use Rattle.commands.specs.Denotes.{Denotes}
 use Rattle.tally.specs.Monoid.{marks_of}
 use Rattle.tallying.specs.Nodes.{Lists}
-use Rattle.selector.specs.Calls.{Call, load, rise, fall, tally, Answer, refused, loaded, left, value}
+use Rattle.selector.specs.Calls.{load, tally, Answer, value}
 use Rattle.history.specs.History.{Turn, Progress, granted, progress, start}
 
 -- a tally of the span is due: it lies in the tree, a program is loaded, and every node has since been risen over and fallen over

@@ -1,5 +1,5 @@
 -- A list of calls and answers as one kind of tally sees it: tallies of other kinds are told of, without their values.
-use Rattle.std.specs.Prelude.{ℕ, Bool, true, false, cond, List, [], ◌∷◌, ◌==◌}
+use Rattle.std.specs.Prelude.{ℕ, Bool, false, cond, List, [], ◌∷◌, ◌==◌}
 use Rattle.selector.specs.Calls.{Call, load, rise, fall, tally, other, Answer, refused, loaded, left, value, told}
 use Rattle.history.specs.History.{Turn}
 use Rattle.history.specs.declared.calls.Call.{Call as Held}

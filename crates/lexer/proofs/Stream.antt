@@ -1,5 +1,5 @@
 -- The tokens of a text, one reading at a time.
-use Rattle.std.proofs.Common.{◌≡◌, ℕ, zero, suc, ◌+◌, ◌-◌, ◌<◌, ◌≤◌, Bool, true, false, cond, eqb, leb, List, [], ◌∷◌, length, get_or, take, drop, Ok, Err, Result, sym, refl, ap, ◌∙◌, subst, add-zero, zero-add, add-one, one-add, arith, lit<, length-drop, length-take, drop-drop}
+use Rattle.std.proofs.Common.{◌≡◌, ℕ, zero, suc, ◌+◌, ◌-◌, ◌<◌, ◌≤◌, Bool, true, false, cond, eqb, leb, List, [], ◌∷◌, length, take, drop, Ok, Err, Result, sym, refl, ap, ◌∙◌, subst, add-zero, one-add, arith, lit<, length-drop, length-take, drop-drop}
 use Rattle.std.specs.List.{prefix_len}
 use Rattle.grammar.specs.Bytes.{white, begins, named}
 use Rattle.std.proofs.lemmas.Bool.Decides.{nat_tests}
@@ -14,7 +14,7 @@ use Rattle.lexer.specs.Lexing as lexing
 use Rattle.lexer.specs.Readers.{Lies, Spans, SeesToken, Sees}
 use Rattle.grammar.specs.declared.tokens.Symbol.TheVariants.{Slash, DoubleSlash, LeftBracket, RightBracket, LeftParen, RightParen, Star, DoubleColon}
 use Rattle.lexer.specs.Lexing.{Found, read, ended, refused, next_from, placed, front, grow}
-use Rattle.grammar.specs.Tokens.{symbol, word, first_is, name_of, Token, Front, found, done, strange, long, Placed, token, bad, cut, tokens_at, front_of}
+use Rattle.grammar.specs.Tokens.{symbol, word, first_is, name_of, Front, found, done, strange, long, Placed, token, bad, cut, tokens_at, front_of}
 
 -- what a byte brings, by its tests
 abbrev turn : Bool → Front → List ℕ → ℕ → List Placed

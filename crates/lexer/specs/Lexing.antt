@@ -1,5 +1,5 @@
 -- One token of a text at a time.
-use Rattle.std.specs.Prelude.{◌≡◌, ℕ, ◌+◌, ◌-◌, ◌<◌, ◌≤◌, Bool, true, false, List, [], ◌∷◌, length, take, drop, Ok, Err, Result}
+use Rattle.std.specs.Prelude.{◌≡◌, ℕ, ◌+◌, Bool, true, false, List, [], ◌∷◌, drop, Ok, Err, Result}
 use Rattle.std.specs.List.{prefix_len}
 use Rattle.grammar.specs.Bytes.{white}
 use Rattle.grammar.specs.Tokens.{Front, found, done, strange, long, front_of, Placed, token, bad, symbol, word, tokens_at}

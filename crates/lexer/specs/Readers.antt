@@ -1,5 +1,5 @@
 -- What a reader has still to give, and what its calls take of that.
-use Rattle.std.specs.Prelude.{◌≡◌, ℕ, ◌+◌, ◌-◌, ◌<◌, ◌≤◌, Bool, true, false, List, [], ◌∷◌, length, take, drop, Some, None, Ok, Err, Option, Result}
+use Rattle.std.specs.Prelude.{◌≡◌, ℕ, ◌+◌, ◌<◌, ◌≤◌, Bool, true, false, List, [], ◌∷◌, length, take, drop, Some, None, Ok, Err, Option, Result}
 use Rattle.grammar.specs.declared.tokens.Symbol.{Symbol}
 use Rattle.grammar.specs.declared.tokens.Symbol.TheVariants.{LeftParen}
 use Rattle.grammar.specs.Tokens.{Placed, token, bad, symbol, word, tokens_at}

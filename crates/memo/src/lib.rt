@@ -1,4 +1,6 @@
 // A small memory of answers. An answer is kept at a place that its key gives, until another takes the place.
+#![tactic(auto)]
+
 ghost use Rattle.std.specs.Prelude.{◌≡◌, ℕ, ◌<◌, List, replicate, Some, None, Decides, slice_index_or, slice_set};
 ghost use Rattle.memo.specs.Places.{Finds};
 ghost use Rattle.memo.specs.Spread.{spread as spread_of};

@@ -1,4 +1,6 @@
 // Shows a small tree, kept as parentheses and as rows: a line for each node with its number, depth, label and size.
+#![tactic(auto)]
+
 use anyhow::anyhow;
 use excerpt::Excerpt;
 use parens::paren_tree::ParenTree;

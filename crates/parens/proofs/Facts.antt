@@ -1,21 +1,20 @@
 -- What is known of a parenthesis tree.
-use Rattle.std.proofs.Common.{◌≡◌, ℕ, zero, suc, ◌+◌, ◌-◌, ◌*◌, ◌/◌, ◌<◌, ◌≤◌, min, Bool, true, false, cond, List, [], ◌∷◌, length, get_or, take, drop, pos, ◌+ℤ◌, ◌≤ℤ◌, Some, None, Option, sym, refl, ap, ◌∙◌, subst, arith, length-drop}
+use Rattle.std.proofs.Common.{◌≡◌, ℕ, zero, suc, ◌+◌, ◌-◌, ◌*◌, ◌/◌, ◌<◌, ◌≤◌, Bool, true, false, cond, List, [], ◌∷◌, length, get_or, take, drop, pos, ◌+ℤ◌, ◌≤ℤ◌, Some, None, sym, refl, ap, ◌∙◌, subst, arith, length-drop}
 use Rattle.std.proofs.lemmas.List.{drop_all, get_or_past}
 use Rattle.rows.specs.Rows.{Row, nobody, label_of}
 use Rattle.rows.specs.Answers.{first_here, first_of, next_here, next_of, size_here, size_of}
-use Rattle.rows.specs.Lawful.{IsLawful, lawful}
+use Rattle.rows.specs.Lawful.{IsLawful}
 use Rattle.shape.specs.Bits.{bits_of, openings, select, close}
 use Rattle.shape.specs.Shape.{closing, rows_from}
 use Rattle.shape.proofs.Bytes.{bits_length}
 use Rattle.shape.proofs.Nodes.{opening_within, opening_told, closing_told, size_told, first_is, next_is}
-use Rattle.scan.specs.Directory.{block_at, blocks, directory_of}
+use Rattle.scan.specs.Directory.{block_at}
 use Rattle.scan.specs.Trees.{rows_of}
 use Rattle.scan.specs.declared.block.Block.{Block}
 use Rattle.shape.specs.Laws.{opening_place, closing_place}
 use Rattle.parens.specs.declared.paren_tree.ParenTree.{ParenTree}
 use Rattle.parens.specs.declared.places.Places.{Places}
-use Rattle.scan.proofs.Blocks.{blank, directory_length, directory_at, select_block, block_room, block_skip, block_openings, stretch_length}
-use Rattle.shape.proofs.Skips.{openings_length}
+use Rattle.scan.proofs.Blocks.{blank, directory_length, directory_at, select_block, block_room, block_skip, block_openings}
 
 lawful_some : (rs : List Row) → IsLawful rs → 1 ≤ length rs
 lawful_some [] l = let z : ◌≡◌ {A = ℕ} 0 1 = cc in absurd (omega arith)

@@ -1,5 +1,5 @@
 -- Buffers load exactly where they hold a tree.
-use Rattle.std.proofs.Common.{◌≡◌, ℕ, ◌+◌, ◌-◌, ◌*◌, ◌/◌, ◌≤◌, min, Bool, List, [], ◌∷◌, ◌++◌, length, take, sym, refl, ap, ◌∙◌, subst, arith, length-append, length-take}
+use Rattle.std.proofs.Common.{◌≡◌, ℕ, ◌-◌, ◌*◌, ◌≤◌, Bool, List, [], ◌++◌, length, take, sym, refl, ap, ◌∙◌, arith, length-append, length-take}
 use Rattle.std.proofs.lemmas.List.{length-map, take_all}
 use Rattle.rows.specs.Rows.{Row, Lawful}
 use Rattle.rows.proofs.Laws.{of_lawful}
@@ -11,11 +11,9 @@ use Rattle.shape.proofs.Bytes.{bits_length}
 use Rattle.shape.proofs.Lawful.{rows_labels, parens_length, parens_append, closing_length}
 use Rattle.shape.proofs.Packed.{bits_packed, packed_length}
 use Rattle.scan.specs.Directory.{blocks, bytes, directory_of}
-use Rattle.scan.specs.Trees.{rows_of}
-use Rattle.scan.specs.declared.block.Block.{Block}
 use Rattle.scan.proofs.Blocks.{directory_length, directory_front}
 use Rattle.scan.proofs.Decided.{tree_of_rows}
-use Rattle.parens.specs.Loading.{Holds, shown, HeldLoads, LoadedHeld, TreesHeld}
+use Rattle.parens.specs.Loading.{shown, HeldLoads, LoadedHeld, TreesHeld}
 
 two_each : (rs : List Row) → Lawful rs → length (parens rs) ≡ 2 * length rs
 two_each rs law = parens_length 0 rs [] (lawful_stepped rs (of_lawful rs law)) ∙ omega arith

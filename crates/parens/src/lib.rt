@@ -1,4 +1,6 @@
 // The parenthesis tree: a tree as bits, labels and a directory in borrowed memory.
+#![tactic(auto)]
+
 ghost use Rattle.rows.proofs.Laws.{to_lawful};
 ghost use Rattle.scan.specs.Trees.{rows_of};
 

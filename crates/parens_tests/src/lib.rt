@@ -1,3 +1,5 @@
+#![tactic(auto)]
+
 // Tests of parenthesis trees, of their directory and of the tables under them.
 #[cfg(test)]
 mod damage;

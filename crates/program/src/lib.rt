@@ -1,4 +1,6 @@
 // Programs as bytes: the check of their rules, and what their deciding states say at one node.
+#![tactic(auto)]
+
 pub mod check;
 pub mod deciding;
 pub mod decode;

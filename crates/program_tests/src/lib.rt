@@ -1,3 +1,5 @@
+#![tactic(auto)]
+
 // Tests of the check of programs: byte strings that break one rule each.
 #[cfg(test)]
 mod tests {

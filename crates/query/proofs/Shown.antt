@@ -1,11 +1,10 @@
 -- The table's test says what the table shows.
-use Rattle.std.proofs.Common.{◌≡◌, ℕ, ◌+◌, ◌≤◌, Bool, true, false, ◌&&◌, eqb, leb, List, length, get_or, take, drop, Some, None, Option, sym, refl, ap, ◌∙◌, subst, arith}
+use Rattle.std.proofs.Common.{◌≡◌, ℕ, ◌+◌, Bool, true, false, List, take, drop, Some, None, Option, refl, ap, ◌∙◌, subst, arith}
 use Rattle.std.proofs.lemmas.Bool.{eqb-true, eq-eqb, leb-true, le-leb, and_parts, and_from}
 use Rattle.grammar.specs.Syntax.{self, child, descendant, following_sibling, element, name, text, node, Path, first, more, Filter, plain, holds, Pred, some, not, and, or, own, in_path, in_filter, in_pred}
 use Rattle.grammar.specs.Syntax as syntax
-use Rattle.grammar.specs.Machine.{Where, outer, inner, same, Outcome, accepted, refused, outcome}
+use Rattle.grammar.specs.Machine.{Where, outer, inner, Outcome, accepted, refused, outcome}
 use Rattle.grammar.proofs.Words.{same_true, same_self}
-use Rattle.query.specs.declared.table.Axis.{Axis}
 use Rattle.query.specs.declared.table.NodeTest.{NodeTest}
 use Rattle.query.specs.declared.table.NodeTest.TheVariants.{Element, Name, Text, Node}
 use Rattle.query.specs.declared.table.Step.{Step}
@@ -15,7 +14,7 @@ use Rattle.query.specs.declared.table.Predicate.{Predicate}
 use Rattle.query.specs.declared.table.Table.{Table}
 use Rattle.query.specs.declared.parsed.Query.{Query}
 use Rattle.query.specs.Reads.{accepts, path_of, accepts_text, path_in}
-use Rattle.query.specs.Shown.{axis_of, ShowsTest, step_at, predicate_at, index, taken, within, preds_path, preds_filter, below, ShowsHere, ShowsPath, ShowsFilter, ShowsPred, Shows, axis_number, is_element, is_name, is_text, is_node, shows_test, same_flag, same_number, same_shape, same_predicate, shows_here, shows_path, shows_filter, shows_pred, shown_by}
+use Rattle.query.specs.Shown.{ShowsTest, step_at, index, taken, within, preds_path, below, ShowsHere, ShowsPath, ShowsFilter, ShowsPred, Shows, axis_number, is_element, is_name, is_text, is_node, shows_test, same_flag, same_number, same_shape, same_predicate, shows_here, shows_path, shows_filter, shows_pred, shown_by}
 
 nope : {X : Type 0} → false ≡ true → X
 nope h = let z : ◌≡◌ {A = ℕ} 0 1 = cc in absurd (omega arith)

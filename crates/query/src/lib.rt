@@ -1,4 +1,6 @@
 // A query that was read: a value of its own, with its text, its steps and its predicates; and why a text is refused.
+#![tactic(auto)]
+
 ghost use Rattle.std.specs.Prelude.{◌≡◌};
 ghost use Rattle.query.specs.Faults.{code_of, place_of};
 

@@ -1,3 +1,5 @@
+#![tactic(auto)]
+
 // Texts that are read and texts that are refused, with what the rules of queries say of them.
 #[cfg(test)]
 mod tests {

@@ -1,10 +1,10 @@
 -- How a step without its bracket is read.
-use Rattle.std.proofs.Common.{◌≡◌, ℕ, zero, suc, ◌+◌, ◌-◌, ◌<◌, ◌≤◌, Bool, true, false, List, [], ◌∷◌, length, Ok, Err, Result, sym, refl, ap, ◌∙◌, subst, arith}
+use Rattle.std.proofs.Common.{◌≡◌, ℕ, suc, ◌+◌, ◌-◌, ◌<◌, Bool, true, false, List, ◌∷◌, length, Ok, Err, Result, sym, ap, ◌∙◌, subst, arith}
 use Rattle.grammar.specs.declared.tokens.Symbol.TheVariants as symbols
 use Rattle.grammar.specs.Tokens.{Placed, token, symbol, word}
 use Rattle.grammar.specs.Syntax as syntax
 use Rattle.grammar.specs.Syntax.{child, descendant}
-use Rattle.grammar.specs.Machine.{Where, outer, inner, where_is, Context, Before, State, begin, due, test, pend, named, tested, begins, to, turn, run, refused, AsAxis, axis_of_word, on_axis, act}
+use Rattle.grammar.specs.Machine.{Where, outer, inner, where_is, Context, Before, State, due, test, pend, named, tested, begins, to, turn, run, refused, AsAxis, axis_of_word, on_axis, act}
 use Rattle.grammar.specs.Glances.{next_is}
 use Rattle.grammar.proofs.Glance.{child_step}
 use Rattle.grammar.proofs.Refusals.{onward}
@@ -12,8 +12,7 @@ use Rattle.grammar.proofs.Descent.{due_word, far_word}
 use Rattle.query.specs.declared.table.Table.{Table}
 use Rattle.query.specs.Shown.{axis_of, ShowsTest}
 use Rattle.lexer.specs.declared.Reader.{Reader}
-use Rattle.lexer.specs.declared.tokens.Word.{Word}
-use Rattle.lexer.specs.Readers.{tokens_of, end_of, Moved, Spans}
+use Rattle.lexer.specs.Readers.{tokens_of, end_of, Moved}
 use Rattle.reader.specs.declared.parts.Head.{Head}
 use Rattle.reader.specs.declared.parts.Parser.{Parser}
 use Rattle.reader.specs.Rows.{index_in, most, grown}
@@ -22,7 +21,7 @@ use Rattle.query.specs.Faults.{code_of, place_of}
 use Rattle.query.specs.declared.table.Axis.{Axis}
 use Rattle.query.specs.declared.table.Axis.TheVariants.{Child}
 use Rattle.query.specs.declared.table.NodeTest.{NodeTest}
-use Rattle.reader.specs.Heads.{starting, worded, Onward, Went, NamedTells, TestTells, WordTells, HeadRead, HeadTells, outer_left, inner_left}
+use Rattle.reader.specs.Heads.{starting, worded, NamedTells, TestTells, WordTells, HeadTells, outer_left, inner_left}
 
 pub begun : (e : ℕ) (w : Where) (t u : Table) → index_in w t < most w → u ≡ grown w t → (s : State) (a d l : ℕ) (ts : List Placed) → onward e (turn (begins w a (to s)) d l (16 - t.outside_count) (23 - t.inside_count)) ts ≡ run e s l (16 - u.outside_count) (23 - u.inside_count) ts
 begun e outer t u room eq s a d l ts =

@@ -1,37 +1,31 @@
 -- How the calls of the reader join: predicates, groups and brackets.
-use Rattle.std.proofs.Common.{◌≡◌, ℕ, zero, suc, ◌+◌, ◌-◌, ◌*◌, ◌<◌, ◌≤◌, Bool, true, false, cond, ◌≢◌, List, [], ◌∷◌, length, Some, None, Ok, Err, Option, Result, sym, refl, ap, ◌∙◌, subst, arith}
+use Rattle.std.proofs.Common.{◌≡◌, ℕ, suc, ◌+◌, ◌-◌, ◌<◌, ◌≤◌, true, false, cond, List, [], ◌∷◌, Some, None, Ok, Err, sym, refl, ap, ◌∙◌, subst, arith}
 use Rattle.grammar.specs.declared.tokens.Symbol.{Symbol}
 use Rattle.grammar.specs.declared.tokens.Symbol.TheVariants as symbols
-use Rattle.grammar.specs.Tokens.{Token, Placed, token, bad, symbol, word}
-use Rattle.grammar.specs.Syntax as syntax
-use Rattle.grammar.specs.Syntax.{Path, first, more, Filter, plain, holds, Pred, some, not, and, or, child, descendant, own, in_path, in_filter, in_pred, or_word, and_word, not_word}
-use Rattle.grammar.specs.Machine.{Where, outer, inner, where_is, Context, top, unit, Opened, bracket, group, negate, Side, no, has, conj, disj, Before, start, past, ext, State, begin, due, test, tested, stepped, united, Turn, stop, go, move, down, act, turn, run, Outcome, accepted, refused, join_of, joined}
-use Rattle.grammar.specs.Glances.{next_is, next_not, next_word, next_name, next_end, fault_code, fault_place}
+use Rattle.grammar.specs.Tokens.{Placed, token, bad, symbol, word}
+use Rattle.grammar.specs.Syntax.{plain, holds, Pred, some, not, own, in_path, in_pred, or_word, and_word}
+use Rattle.grammar.specs.Machine.{inner, unit, Opened, bracket, group, negate, Side, no, conj, disj, ext, begin, tested, stepped, united, move, down, act, turn, run, refused, join_of, joined}
+use Rattle.grammar.specs.Glances.{next_is, next_word, fault_code, fault_place}
 use Rattle.grammar.specs.Descent as descent
 use Rattle.query.specs.declared.fault.Fault.{Fault}
 use Rattle.query.specs.Faults.{code_of, place_of}
 use Rattle.query.specs.declared.table.Table.{Table}
-use Rattle.query.specs.declared.table.Step.{Step}
 use Rattle.query.specs.declared.table.Shape.{Shape}
 use Rattle.query.specs.declared.table.Shape.TheVariants as shape
-use Rattle.query.specs.declared.table.Predicate.{Predicate}
-use Rattle.query.specs.Shown.{axis_of, ShowsTest, step_at, predicate_at, index, taken, within, preds_path, preds_filter, below, ShowsHere, ShowsPath, ShowsFilter, ShowsPred, blank_predicate, blank_step}
+use Rattle.query.specs.Shown.{predicate_at, preds_path, below, ShowsPred}
 use Rattle.lexer.specs.declared.Reader.{Reader}
-use Rattle.lexer.specs.Readers.{tokens_of, end_of, Moved}
-use Rattle.reader.specs.declared.parts.Lead.{Lead}
-use Rattle.reader.specs.declared.parts.Lead.TheVariants.{Nothing, Slash, DoubleSlash}
-use Rattle.reader.specs.declared.parts.Head.{Head}
+use Rattle.lexer.specs.Readers.{tokens_of, end_of}
 use Rattle.reader.specs.declared.parts.Parser.{Parser}
-use Rattle.reader.specs.Rows.{index_in, most, grown, Counted, Writes, Pushes, Negated}
-use Rattle.reader.specs.Heads.{Leads, far_of, starting, Onward, Went, HeadRead, HeadTells, outer_left, inner_left}
-use Rattle.reader.specs.Parsing.{Fit, Starts, Keeps, Gained, runs, fails, owns, one, PathRead, PathTells, slash_of, ending, Over, next_of, StepRead, StepTells, FilterRead, FilterTells, nots, PredRead, closer, closed, onto, opens, EnclosedTells, told, failed, PredTells, ConjTells, UnitTells, slash_in, owns_before, within_before, preds_before, ShowsBefore, Walked}
+use Rattle.reader.specs.Rows.{Pushes, Negated}
+use Rattle.reader.specs.Heads.{Onward, outer_left, inner_left}
+use Rattle.reader.specs.Parsing.{Fit, Gained, runs, fails, PathTells, FilterTells, nots, PredRead, closer, closed, onto, opens, EnclosedTells, told, PredTells, UnitTells}
 use Rattle.grammar.specs.Machine.{AsJoin, isor, isand}
-use Rattle.lexer.specs.Readers.{Accepts, Keywords, Negates}
+use Rattle.lexer.specs.Readers.{Accepts, Negates}
 use Rattle.std.proofs.lemmas.Bool.{cond-false}
 use Rattle.grammar.specs.Machine.{same}
-use Rattle.grammar.proofs.Descent.{one_unit, and_unit, one_conj, or_conj, path_unit}
+use Rattle.grammar.proofs.Descent.{path_unit}
 use Rattle.grammar.proofs.Glance.{plain_step}
-use Rattle.reader.proofs.Keeping.{preds_path_lem, preds_below, own_one, stay_pred, stay_path, nots_in, raise, keeps_trans, on_trans, on_moved, on_same, gain, gain_as, moves, same_end, fit_after, pushed, negated}
+use Rattle.reader.proofs.Keeping.{preds_path_lem, preds_below, own_one, stay_pred, stay_path, nots_in, raise, keeps_trans, on_moved, on_same, gain, gain_as, moves, same_end, fit_after, pushed, negated}
 
 nope : {X : Type 0} → true ≡ false → X
 nope h = let z : ◌≡◌ {A = ℕ} 0 1 = cc in absurd (omega arith)

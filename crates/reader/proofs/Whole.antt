@@ -1,34 +1,21 @@
 -- A whole text is read.
-use Rattle.std.proofs.Common.{◌≡◌, ℕ, zero, suc, ◌+◌, ◌-◌, ◌*◌, ◌<◌, ◌≤◌, Bool, true, false, ltb, ◌≢◌, List, [], ◌∷◌, length, Some, None, Ok, Err, Option, Result, sym, refl, ap, ◌∙◌, subst, arith}
-use Rattle.grammar.specs.declared.tokens.Symbol.{Symbol}
+use Rattle.std.proofs.Common.{◌≡◌, ℕ, ◌-◌, ◌<◌, true, false, List, [], ◌∷◌, length, None, Ok, Err, sym, refl, ap, ◌∙◌, subst, arith}
 use Rattle.grammar.specs.declared.tokens.Symbol.TheVariants as symbols
-use Rattle.grammar.specs.Tokens.{Token, Placed, token, bad, symbol, word}
-use Rattle.grammar.specs.Syntax as syntax
-use Rattle.grammar.specs.Syntax.{Path, first, more, Filter, plain, holds, Pred, some, not, and, or, child, descendant, own, in_path, in_filter, in_pred, or_word, and_word, not_word}
-use Rattle.grammar.specs.Machine.{Where, outer, inner, where_is, Context, top, unit, Opened, bracket, group, negate, Side, no, has, conj, disj, Before, start, past, ext, State, begin, due, test, tested, stepped, united, Turn, stop, go, move, down, act, turn, run, Outcome, accepted, refused, join_of, joined}
-use Rattle.grammar.specs.Glances.{next_is, next_not, next_word, next_name, next_end, fault_code, fault_place}
-use Rattle.grammar.specs.Descent as descent
+use Rattle.grammar.specs.Tokens.{Placed, token, bad, symbol, word}
+use Rattle.grammar.specs.Syntax.{Path}
+use Rattle.grammar.specs.Machine.{outer, top, begin, stepped, run, refused}
+use Rattle.grammar.specs.Glances.{next_is, next_end, fault_code, fault_place}
 use Rattle.query.specs.declared.fault.Fault.{Fault}
 use Rattle.query.specs.Faults.{code_of, place_of}
-use Rattle.query.specs.declared.table.Table.{Table}
-use Rattle.query.specs.declared.table.Step.{Step}
-use Rattle.query.specs.declared.table.Shape.{Shape}
-use Rattle.query.specs.declared.table.Shape.TheVariants as shape
-use Rattle.query.specs.declared.table.Predicate.{Predicate}
-use Rattle.query.specs.Shown.{axis_of, ShowsTest, step_at, predicate_at, index, taken, within, preds_path, preds_filter, below, ShowsHere, ShowsPath, ShowsFilter, ShowsPred, blank_predicate, blank_step}
+use Rattle.query.specs.Shown.{ShowsPath}
 use Rattle.lexer.specs.declared.Reader.{Reader}
-use Rattle.lexer.specs.Readers.{tokens_of, end_of, Moved}
-use Rattle.reader.specs.declared.parts.Lead.{Lead}
-use Rattle.reader.specs.declared.parts.Lead.TheVariants.{Nothing, Slash, DoubleSlash}
-use Rattle.reader.specs.declared.parts.Head.{Head}
+use Rattle.lexer.specs.Readers.{tokens_of, end_of}
 use Rattle.reader.specs.declared.parts.Parser.{Parser}
-use Rattle.reader.specs.Rows.{index_in, most, grown, Counted, Writes, Pushes, Negated}
-use Rattle.reader.specs.Heads.{Leads, far_of, starting, Onward, Went, HeadRead, HeadTells, outer_left, inner_left}
-use Rattle.reader.specs.Parsing.{Fit, Starts, Keeps, Gained, runs, fails, owns, one, PathRead, PathTells, slash_of, ending, Over, next_of, StepRead, StepTells, FilterRead, FilterTells, nots, PredRead, closer, closed, onto, opens, EnclosedTells, told, failed, PredTells, ConjTells, UnitTells, slash_in, owns_before, within_before, preds_before, ShowsBefore, Walked}
+use Rattle.reader.specs.Heads.{outer_left, inner_left}
+use Rattle.reader.specs.Parsing.{runs, PathTells}
 use Rattle.grammar.specs.Machine.{outcome}
 use Rattle.grammar.specs.Tokens.{tokens_at}
 use Rattle.std.proofs.lemmas.Bool.{le-ltb}
-use Rattle.query.specs.Shown.{Shows}
 use Rattle.lexer.specs.Readers.{Ends}
 use Rattle.reader.specs.Answers.{Parsed}
 use Rattle.reader.proofs.Keeping.{same_end}

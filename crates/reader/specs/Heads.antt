@@ -1,17 +1,16 @@
 -- What is told of a lead, an axis, a node test and a step without its bracket: which state the machine comes to.
-use Rattle.std.specs.Prelude.{◌≡◌, ℕ, ◌+◌, ◌-◌, ◌<◌, ◌≤◌, Bool, true, false, List, [], ◌∷◌, length, Some, None, Ok, Err, Option, Result}
+use Rattle.std.specs.Prelude.{◌≡◌, ℕ, ◌-◌, ◌<◌, ◌≤◌, Bool, true, false, List, ◌∷◌, Some, None, Ok, Err, Option, Result}
 use Rattle.grammar.specs.declared.tokens.Symbol.TheVariants as symbols
-use Rattle.grammar.specs.Tokens.{Placed, token, symbol, tokens_at}
+use Rattle.grammar.specs.Tokens.{token, symbol}
 use Rattle.grammar.specs.Syntax as syntax
 use Rattle.grammar.specs.Syntax.{child, descendant}
-use Rattle.grammar.specs.Machine.{Where, outer, inner, where_is, Context, Before, State, begin, due, test, pend, named, tested, run, refused, same, AsAxis, is, axis_of_word}
+use Rattle.grammar.specs.Machine.{Where, where_is, Context, Before, State, due, test, pend, named, tested, run, refused, AsAxis, is, axis_of_word}
 use Rattle.grammar.specs.Glances.{next_is}
 use Rattle.query.specs.declared.fault.Fault.{Fault}
 use Rattle.query.specs.Faults.{code_of, place_of}
 use Rattle.query.specs.declared.table.Axis.{Axis}
 use Rattle.query.specs.declared.table.NodeTest.{NodeTest}
 use Rattle.query.specs.declared.table.NodeTest.TheVariants.{Name}
-use Rattle.query.specs.declared.table.Table.{Table}
 use Rattle.query.specs.Shown.{axis_of, ShowsTest}
 use Rattle.lexer.specs.declared.Reader.{Reader}
 use Rattle.lexer.specs.Readers.{tokens_of, end_of, Moved}

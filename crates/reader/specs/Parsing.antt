@@ -1,23 +1,23 @@
 -- What is told of the calls of a reader by recursive descent: which state the machine comes to, whatever surrounds the
 -- call, and which rows have been written.
-use Rattle.std.specs.Prelude.{◌≡◌, ℕ, ◌+◌, ◌-◌, ◌*◌, ◌<◌, ◌≤◌, Bool, true, false, List, [], ◌∷◌, Some, None, Ok, Err, Option, Result}
+use Rattle.std.specs.Prelude.{◌≡◌, ℕ, ◌+◌, ◌-◌, ◌*◌, ◌<◌, ◌≤◌, Bool, true, false, List, Some, None, Ok, Err, Option, Result}
 use Rattle.grammar.specs.declared.tokens.Symbol.{Symbol}
 use Rattle.grammar.specs.declared.tokens.Symbol.TheVariants as symbols
 use Rattle.grammar.specs.Tokens.{Placed}
 use Rattle.grammar.specs.Syntax as syntax
 use Rattle.grammar.specs.Syntax.{Path, Filter, holds, Pred, some, not, and, or, descendant, own, in_path, in_filter, in_pred, or_word, and_word}
-use Rattle.grammar.specs.Machine.{Where, outer, inner, where_is, Context, unit, Opened, bracket, group, negate, Side, no, Before, start, past, ext, State, begin, due, test, tested, stepped, united, Turn, stop, go, move, down, run, Outcome, refused}
+use Rattle.grammar.specs.Machine.{Where, outer, inner, where_is, Context, unit, Opened, bracket, group, negate, no, Before, start, past, ext, State, begin, due, test, tested, stepped, united, Turn, stop, go, move, down, run, Outcome, refused}
 use Rattle.grammar.specs.Glances.{next_is, next_not, next_word}
 use Rattle.grammar.specs.Descent as descent
 use Rattle.query.specs.declared.fault.Fault.{Fault}
 use Rattle.query.specs.Faults.{code_of, place_of}
 use Rattle.query.specs.declared.table.Table.{Table}
-use Rattle.query.specs.Shown.{axis_of, step_at, predicate_at, index, taken, within, preds_path, preds_filter, below, ShowsHere, ShowsPath, ShowsFilter, ShowsPred}
+use Rattle.query.specs.Shown.{step_at, predicate_at, taken, within, preds_path, preds_filter, below, ShowsHere, ShowsPath, ShowsFilter, ShowsPred}
 use Rattle.lexer.specs.Readers.{tokens_of, end_of}
 use Rattle.reader.specs.declared.parts.Lead.{Lead}
 use Rattle.reader.specs.declared.parts.Lead.TheVariants.{Nothing, Slash, DoubleSlash}
 use Rattle.reader.specs.declared.parts.Parser.{Parser}
-use Rattle.reader.specs.Rows.{index_in, most}
+use Rattle.reader.specs.Rows.{index_in}
 use Rattle.reader.specs.Heads.{far_of, starting, Onward, Went, outer_left, inner_left}
 
 -- what every call finds: a short text, and room for as many predicates as the steps can have

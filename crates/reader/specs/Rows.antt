@@ -1,5 +1,5 @@
 -- What the writing of rows does.
-use Rattle.std.specs.Prelude.{◌≡◌, ℕ, ◌+◌, ◌<◌, ◌≤◌, ◌≢◌, length, Ok, Err, Result}
+use Rattle.std.specs.Prelude.{◌≡◌, ℕ, ◌+◌, ◌<◌, ◌≤◌, ◌≢◌, Ok, Err, Result}
 use Rattle.grammar.specs.Machine.{Where, outer, inner}
 use Rattle.query.specs.declared.fault.Fault.{Fault}
 use Rattle.query.specs.declared.fault.Fault.TheVariants.{Many}

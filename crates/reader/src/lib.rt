@@ -1,4 +1,6 @@
 // Reads a query text.
+#![tactic(auto)]
+
 ghost use Rattle.std.specs.Prelude.{◌≡◌, ◌<◌, ◌≤◌, length, take};
 ghost use Rattle.grammar.specs.Claims.{Sound, Complete, Unambiguous, Code4, Limits};
 ghost use Rattle.reader.specs.Answers.{Answers, Parsed};

@@ -1,12 +1,12 @@
 -- Writing stored rows one after the other.
-use Rattle.std.proofs.Common.{◌≡◌, ℕ, zero, suc, ◌+◌, ◌-◌, ◌<◌, ◌≤◌, List, [], ◌∷◌, ◌++◌, length, get_or, take, drop, set, sym, refl, ap, ◌∙◌, subst, arith, length-append}
+use Rattle.std.proofs.Common.{◌≡◌, ℕ, zero, suc, ◌+◌, ◌-◌, ◌<◌, ◌≤◌, List, [], ◌∷◌, ◌++◌, length, get_or, take, drop, set, sym, refl, ap, ◌∙◌, subst, arith}
 use lib.Seq.{drop-nil}
 use Rattle.std.proofs.lemmas.List.{take_all, take-append-le}
 use Rattle.rows.specs.Rows.{Row, count_of, Lawful}
 use Rattle.rows.specs.Answers.{size_of}
 use Rattle.stored.specs.declared.row.StoredRow.{StoredRow}
-use Rattle.stored.specs.Stored.{blank, at, distance_of, stored_at, stored_of, rows_of, OfTree, Stores}
-use Rattle.stored.specs.Fits.{Ended, Fits, parent_of}
+use Rattle.stored.specs.Stored.{at, distance_of, stored_of, rows_of, OfTree}
+use Rattle.stored.specs.Fits.{Ended, Fits}
 use Rattle.stored.proofs.Subtrees.{size_within}
 use Rattle.stored.proofs.Kept.{stored_length, stored_read, stores, rows_kept}
 use Rattle.stored.proofs.Passed.{fits, root_size, climb, not_root, same_parent}

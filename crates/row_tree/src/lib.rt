@@ -1,4 +1,6 @@
 // The row tree: a table with one row a node, which answers every question in constant time.
+#![tactic(auto)]
+
 ghost use Rattle.std.specs.Prelude.{◌≡◌, Ok, Err};
 ghost use Rattle.rows.specs.Rows.{lone};
 ghost use Rattle.rows.proofs.Laws.{to_lawful};

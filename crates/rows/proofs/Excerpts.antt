@@ -1,11 +1,11 @@
 -- The excerpt's rows are those of a tree, and what it answers.
-use Rattle.std.proofs.Common.{◌≡◌, ℕ, zero, suc, ◌+◌, ◌-◌, ◌<◌, ◌≤◌, max, Bool, true, false, cond, ◌&&◌, eqb, ltb, leb, List, [], ◌∷◌, length, get_or, drop, Some, None, Option, sym, refl, ap, ◌∙◌, subst, arith, length-drop, drop-drop}
+use Rattle.std.proofs.Common.{◌≡◌, ℕ, zero, suc, ◌+◌, ◌-◌, ◌<◌, ◌≤◌, max, Bool, true, false, ◌&&◌, ltb, leb, List, [], ◌∷◌, length, drop, Some, None, Option, sym, refl, ap, ◌∙◌, subst, arith, length-drop, drop-drop}
 use Rattle.std.proofs.lemmas.Bool.Decides.{nat_tests}
-use Rattle.std.proofs.lemmas.Bool.{and_parts, and_from, ltb-true, ltb-false, lt-ltb, cond-true, cond-false}
-use Rattle.rows.specs.Rows.{Row, row, nobody, lone, Lawful, count_of, depth_of, label_of}
+use Rattle.std.proofs.lemmas.Bool.{and_parts, and_from, ltb-true, cond-true, cond-false}
+use Rattle.rows.specs.Rows.{Row, row, Lawful, depth_of, label_of}
 use Rattle.rows.specs.Lawful.{lawful, IsLawful, follow, reach, inner_label}
 use Rattle.rows.specs.Answers.{run, size_here, size_of, first_from, first_here, first_of, next_from, next_here, next_of}
-use Rattle.rows.specs.Excerpts.{raised, below, excerpt_here, excerpt_of, ShowsSubtree, Excerpts}
+use Rattle.rows.specs.Excerpts.{raised, below, excerpt_here, excerpt_of, Excerpts}
 use Rattle.rows.proofs.Laws.{to_lawful, of_lawful}
 
 below_short : (d : ℕ) (rs : List Row) → length (below d rs) ≤ length rs

@@ -1,9 +1,9 @@
 -- The test of rows decides whether they are lawful.
-use Rattle.std.proofs.Common.{◌≡◌, ℕ, zero, suc, ◌+◌, ◌<◌, ◌≤◌, Bool, true, false, cond, ◌&&◌, eqb, leb, ◌↔◌, List, [], ◌∷◌, length, get_or, sym, refl, ap, ◌∙◌, subst, arith}
+use Rattle.std.proofs.Common.{◌≡◌, ℕ, zero, suc, ◌<◌, ◌≤◌, Bool, true, ◌&&◌, eqb, leb, List, [], ◌∷◌, length, get_or, refl, arith}
 use Rattle.std.proofs.lemmas.Bool.Decides.{nat_tests}
-use Rattle.std.proofs.lemmas.Bool.{and_parts, and_from, leb-true, le-leb, eqb-true, eq-eqb}
-use Rattle.rows.specs.Rows.{Row, nobody, count_of, depth_of, label_of, Lawful}
-use Rattle.rows.specs.Lawful.{inner_label, reach, follow, lawful, IsLawful}
+use Rattle.std.proofs.lemmas.Bool.{and_parts, and_from}
+use Rattle.rows.specs.Rows.{Row, nobody, depth_of, label_of, Lawful}
+use Rattle.rows.specs.Lawful.{inner_label, reach, follow, IsLawful}
 use Rattle.rows.specs.Claims.{LawfulDecided}
 
 -- the row r may stand right after the row p

@@ -1,9 +1,9 @@
 -- The answers to the questions mean what they should.
-use Rattle.std.proofs.Common.{◌≡◌, ℕ, zero, suc, ◌+◌, ◌<◌, ◌≤◌, Bool, true, false, cond, T, eqb, ltb, ◌⊎◌, ◌↔◌, List, [], ◌∷◌, length, get_or, drop, Some, None, Option, sym, refl, ap, ◌∙◌, subst, inl, inr, ⊎_elim, add-one, arith, length-drop, get_or-drop}
+use Rattle.std.proofs.Common.{◌≡◌, ℕ, suc, ◌+◌, ◌<◌, ◌≤◌, cond, eqb, ltb, ◌⊎◌, ◌↔◌, List, [], ◌∷◌, length, get_or, drop, Some, None, sym, ap, ◌∙◌, subst, inl, inr, add-one, arith, length-drop, get_or-drop}
 use native.Mathlib.Decide.{dec_lt}
 use Rattle.std.proofs.lemmas.Bool.{cond_both, ltb-true, ltb-false, eqb-true, eqb-false}
 use Rattle.rows.specs.Rows.{Row, nobody, count_of as count, depth_of as depth, Descendant, FirstChild, NextSibling}
-use Rattle.rows.specs.Answers.{run, size_here, first_from, first_here, next_from, next_here, first_of, next_of, size_of}
+use Rattle.rows.specs.Answers.{run, size_here, first_here, next_from, next_here}
 use Rattle.rows.specs.Claims.{Answers, Questions}
 
 -- rs are the rows from u on

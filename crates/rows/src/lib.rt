@@ -1,4 +1,6 @@
 // Rows of a tree: what makes them lawful, and the answers to the questions that a tree is asked.
+#![tactic(auto)]
+
 ghost use Rattle.std.specs.Prelude.{◌≤◌, List};
 ghost use Rattle.rows.specs.Rows.{Row, Lawful, count_of};
 ghost use Rattle.rows.specs.Claims.{LawfulDecided, Questions};

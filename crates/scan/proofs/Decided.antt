@@ -1,10 +1,10 @@
 -- Buffers are those of a tree exactly where the walk over them ends well and the directory is theirs.
-use Rattle.std.proofs.Common.{◌≡◌, ℕ, ◌+◌, ◌-◌, ◌*◌, ◌/◌, ◌≤◌, Bool, true, List, [], length, sym, refl, ap, ◌∙◌, subst, arith}
+use Rattle.std.proofs.Common.{◌≡◌, ℕ, ◌-◌, ◌*◌, ◌≤◌, Bool, true, List, [], length, sym, ap, ◌∙◌, subst, arith}
 use Rattle.std.proofs.lemmas.List.{length-map}
 use Rattle.rows.specs.Rows.{Row, Lawful}
 use Rattle.rows.proofs.Laws.{to_lawful, of_lawful}
 use Rattle.shape.specs.Bits.{bits_of}
-use Rattle.shape.specs.Shape.{closing, parens_onto, rows_from, labels_of}
+use Rattle.shape.specs.Shape.{closing, parens_onto, rows_from}
 use Rattle.shape.specs.Walk.{walk_all}
 use Rattle.shape.proofs.Bytes.{bits_length}
 use Rattle.shape.proofs.Lawful.{walk_sound, walk_complete, rows_back, parens_length, closing_length}

@@ -1,4 +1,6 @@
 // The directory of parentheses, and the check of a tree's buffers.
+#![tactic(auto)]
+
 pub mod bits;
 pub mod block;
 pub mod check;

@@ -1,5 +1,5 @@
 -- A translation settles.
-use Rattle.std.proofs.Common.{◌≡◌, ℕ, ◌-◌, ◌≤◌, Bool, true, leb, List, length, take, None, Option, sym, refl, ap, ◌∙◌, subst, arith}
+use Rattle.std.proofs.Common.{◌≡◌, ℕ, ◌-◌, ◌≤◌, Bool, true, leb, List, length, take, None, Option, sym, ap, ◌∙◌, subst, arith}
 use Rattle.std.proofs.lemmas.Bool.{le-leb}
 use Rattle.rows.specs.Rows.{Row, count_of}
 use Rattle.query.specs.declared.parsed.Query.{Query}
@@ -17,7 +17,6 @@ use Rattle.selector.specs.declared.phase.Phase.TheVariants.{Settled}
 use Rattle.selector.specs.Steps.{State, granted_or}
 use Rattle.settle.specs.Settling.{settle_refusal, settled_state, settled_words, swept, Ready}
 use Rattle.settle.proofs.Swept.{asks_none}
-use Rattle.select.specs.declared.fault.Fault.{Fault}
 use Rattle.select.specs.declared.fault.Fault.TheVariants.{Memory, SmallWork}
 use Rattle.select.specs.Selecting.{before, unless_so, prepare_refusal, Prepared}
 

@@ -1,5 +1,5 @@
 -- From a query straight to a settled selector, and to a tally.
-use Rattle.std.specs.Prelude.{◌≡◌, ℕ, ◌-◌, ◌≤◌, Bool, true, false, cond, ◌&&◌, List, length, take, Some, None, Ok, Err, Option, Result, nat_le}
+use Rattle.std.specs.Prelude.{◌≡◌, ℕ, ◌-◌, Bool, cond, ◌&&◌, List, take, Some, None, Ok, Err, Option, Result, nat_le}
 use Rattle.rows.specs.Rows.{Row, count_of}
 use Rattle.query.specs.declared.parsed.Query.{Query}
 use Rattle.query.specs.Queries.{query_of}

@@ -1,4 +1,6 @@
 // The common case: from a query straight to what it selects.
+#![tactic(auto)]
+
 ghost use Rattle.std.specs.Prelude.{◌≡◌, length, Some, None, Ok, Err};
 ghost use Rattle.rows.specs.Rows.{count_of};
 ghost use Rattle.selector.specs.Steps.{state_of};

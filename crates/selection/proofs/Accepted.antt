@@ -1,12 +1,11 @@
 -- What was read keeps the limits.
-use Rattle.std.proofs.Common.{◌≡◌, ℕ, zero, suc, ◌+◌, ◌-◌, ◌≤◌, max, Bool, true, false, List, [], ◌∷◌, length, drop, sym, refl, ap, subst, arith}
+use Rattle.std.proofs.Common.{ℕ, zero, suc, ◌+◌, ◌-◌, ◌≤◌, Bool, true, false, List, [], ◌∷◌, length, arith}
 use Rattle.grammar.specs.Bytes.{white}
-use Rattle.grammar.specs.Tokens.{Placed, Front, found, done, strange, long, front_of, cut, tokens_at, token, bad}
+use Rattle.grammar.specs.Tokens.{Placed, Front, found, done, strange, long, front_of, cut, token, bad}
 use Rattle.grammar.specs.Syntax.{NodeTest, Path, Axis, Filter, Pred, some, not, and, or}
 use Rattle.grammar.specs.Grammar.{IsTest, is_any, is_name, is_text, is_node, IsPath, is_first, is_root, is_deep, is_more, is_far, IsStep, is_axis, is_child, IsTail, is_tail, IsFilter, is_plain, is_holds, IsPred, is_conj, is_or, IsConj, is_unit, is_and, IsUnit, is_not, is_group, is_some}
-use Rattle.grammar.specs.Claims.{Reads}
 use Rattle.grammar.proofs.Reading.{sound}
-use Rattle.selection.specs.Limits.{path_words, filter_words, words, Place, alone, conjoined, unit, level_and, level_or, path_levels, filter_levels, levels, Limited}
+use Rattle.selection.specs.Limits.{path_words, filter_words, words, alone, conjoined, unit, path_levels, filter_levels, levels}
 use Rattle.selection.specs.Claims.{AcceptedLimited}
 
 -- a predicate in parentheses needs one level more at most

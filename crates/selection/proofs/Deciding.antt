@@ -1,5 +1,5 @@
 -- The deciding states of a translated predicate hold where it does.
-use Rattle.std.proofs.Common.{◌≡◌, ℕ, zero, suc, ◌+◌, ◌<◌, ◌≤◌, T, ◌⊎◌, ◌↔◌, List, [], ◌∷◌, ◌++◌, length, get_or, Some, None, Option, sym, refl, subst, inl, inr, ⊎_elim, add-zero, add-suc, suc-add, arith}
+use Rattle.std.proofs.Common.{◌≡◌, ℕ, zero, suc, ◌+◌, ◌<◌, ◌≤◌, T, ◌⊎◌, ◌↔◌, List, [], ◌∷◌, ◌++◌, length, get_or, Some, None, Option, refl, inl, inr, ⊎_elim, add-zero, arith}
 use mathlib.Core.Logic.Iff
 use Rattle.rows.specs.Rows.{Row, count_of as count, label_of, Lawful}
 use Rattle.grammar.specs.Syntax.{Axis, self, child, descendant, following_sibling, NodeTest, Path, first, more, Filter, plain, holds, Pred, some}
@@ -7,7 +7,7 @@ use Rattle.grammar.specs.Syntax as query
 use Rattle.automata.specs.Program.{Formula, Decisions, TrueAt, Right}
 use Rattle.automata.specs.Program as program
 use Rattle.selection.specs.Selects.{Store, On, Passes, Reaches, Filtered, Holds}
-use Rattle.selection.specs.Translate.{passing, beginning, looking, both, Piece, Part, missing, part, onto, of_path, of_filter, of_pred}
+use Rattle.selection.specs.Translate.{passing, beginning, looking, both, Part, missing, part, onto, of_path, of_filter, of_pred}
 use Rattle.selection.proofs.Names.{labels_are}
 use Rattle.selection.proofs.Trees.{Start, Onward, Walk, stop, go, along, start_within, onward_later, walk_within}
 

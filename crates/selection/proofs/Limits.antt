@@ -1,12 +1,12 @@
 -- Translations keep the rules for programs.
-use Rattle.std.proofs.Common.{◌≡◌, ℕ, zero, suc, ◌+◌, ◌*◌, ◌<◌, ◌≤◌, max, List, [], ◌∷◌, ◌++◌, length, get_or, Some, None, Option, sym, refl, subst, add-zero, arith, length-append}
+use Rattle.std.proofs.Common.{◌≡◌, ℕ, zero, suc, ◌+◌, ◌*◌, ◌<◌, ◌≤◌, max, List, [], ◌∷◌, ◌++◌, length, get_or, Some, None, Option, refl, subst, add-zero, arith, length-append}
 use Rattle.grammar.specs.Syntax.{Axis, self, child, descendant, following_sibling, NodeTest, Path, first, more, Filter, plain, holds, Pred, some, own, in_path, in_filter, in_pred}
 use Rattle.grammar.specs.Syntax as query
 use Rattle.automata.specs.Program.{Formula, Names, ProperStates, Every, Goes, ProperRules, width, formula_bytes, move_bytes, total, bytes, Proper, Move, Rule, Program}
 use Rattle.automata.specs.Program as program
 use Rattle.selection.specs.Selects.{Store}
-use Rattle.selection.specs.Limits.{path_words, filter_words, words, Place, alone, conjoined, unit, level_and, level_or, path_levels, filter_levels, levels, Limited}
-use Rattle.selection.specs.Translate.{passing, beginning, looking, both, Piece, Part, missing, part, onto, of_path, of_filter, of_pred, Step, step, steps_onto, steps_of, brackets, matching, deciding, begin, keep, rule, keeping, going, sending, of_steps, translate}
+use Rattle.selection.specs.Limits.{path_words, filter_words, words, Place, alone, conjoined, unit, level_and, level_or, path_levels, filter_levels, levels}
+use Rattle.selection.specs.Translate.{passing, beginning, looking, both, Piece, Part, missing, part, onto, of_path, of_filter, of_pred, Step, step, steps_onto, steps_of, brackets, matching, deciding, begin, rule, keeping, going, sending}
 use Rattle.selection.specs.Claims.{TranslationsFit}
 
 own_some : (p : Path) → 1 ≤ own p

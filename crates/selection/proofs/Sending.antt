@@ -1,11 +1,11 @@
 -- The sending states of a translated query mark what it selects.
-use Rattle.std.proofs.Common.{◌≡◌, ℕ, zero, suc, ◌+◌, ◌<◌, ◌≤◌, T, ◌⊎◌, ◌↔◌, List, [], ◌∷◌, ◌++◌, length, get_or, sym, refl, ◌∙◌, subst, inl, inr, ⊎_elim, add-zero, arith}
+use Rattle.std.proofs.Common.{◌≡◌, ℕ, zero, suc, ◌+◌, ◌<◌, T, ◌⊎◌, ◌↔◌, List, [], ◌∷◌, ◌++◌, get_or, sym, refl, subst, inl, inr, ⊎_elim, add-zero, arith}
 use mathlib.Core.Logic.Iff
 use Rattle.rows.specs.Rows.{Row, count_of as count, Lawful}
 use Rattle.grammar.specs.Syntax.{Axis, self, child, descendant, following_sibling, Path, first, more}
 use Rattle.automata.specs.Program.{Decisions, Move, down, on, stay, mark, Rule, Some, Makes, Leads, Enters, start, sent}
 use Rattle.selection.specs.Selects.{Store, On, Passes, Reaches, Filtered}
-use Rattle.selection.specs.Translate.{Step, step, steps_onto, rule, begin, keep, keeping, going, sending}
+use Rattle.selection.specs.Translate.{Step, step, steps_onto, rule, begin, keep, keeping, sending}
 use Rattle.selection.proofs.Trees.{Start, Onward, Walk, stop, go, along, start_within, onward_later, walk_within}
 
 -- the node passes the step's test and bracket

@@ -1,13 +1,12 @@
 -- The program of a query marks exactly the nodes that the query selects.
-use Rattle.std.proofs.Common.{◌≡◌, ℕ, suc, ◌+◌, ◌<◌, T, ◌↔◌, List, [], ◌∷◌, ◌++◌, length, sym, refl, ◌∙◌, subst, add-zero, add-suc, zero-add, arith}
+use Rattle.std.proofs.Common.{◌≡◌, ℕ, suc, ◌+◌, ◌<◌, T, List, [], ◌∷◌, length, add-zero, zero-add, arith}
 use mathlib.Core.Logic.Iff
 use Rattle.rows.specs.Rows.{Row, count_of as count, Lawful}
 use Rattle.automata.specs.Program.{Decisions, Right, TrueAt}
 use Rattle.automata.specs.Program as program
 use Rattle.automata.proofs.Solutions.{settled}
-use Rattle.grammar.specs.Syntax.{Path}
-use Rattle.selection.specs.Selects.{Store, Passes, Filtered}
-use Rattle.selection.specs.Translate.{Step, steps_of, brackets, matching, passing, both, of_filter, translate}
+use Rattle.selection.specs.Selects.{Store}
+use Rattle.selection.specs.Translate.{Step, steps_of, brackets, matching, passing, of_filter, translate}
 use Rattle.selection.specs.Claims.{MarksSelected, Translates}
 use Rattle.selection.proofs.Deciding.{RightFrom, split, right_from, both_means, passing_means, filter_means}
 use Rattle.selection.proofs.Sending.{Tell, marked_along, along_marked, along_reaches}

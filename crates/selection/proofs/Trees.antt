@@ -1,5 +1,5 @@
 -- The axes by first children and next siblings.
-use Rattle.std.proofs.Common.{◌≡◌, ℕ, zero, suc, ◌+◌, ◌<◌, ◌≤◌, ◌⊎◌, ◌↔◌, List, sym, refl, subst, inl, inr, arith}
+use Rattle.std.proofs.Common.{◌≡◌, ℕ, zero, suc, ◌+◌, ◌<◌, ◌≤◌, ◌⊎◌, ◌↔◌, List, refl, subst, inl, inr, arith}
 use native.Mathlib.Decide.{dec_lt}
 use Rattle.rows.specs.Rows.{Row, count_of as count, depth_of as depth, Lawful, Descendant, Child, FollowingSibling, FirstChild, NextSibling}
 use Rattle.grammar.specs.Syntax.{Axis, self, child, descendant, following_sibling}

@@ -1,4 +1,6 @@
 // What queries select in a tree, and the programs that mark it.
+#![tactic(auto)]
+
 ghost use Rattle.std.specs.Prelude.{◌≤◌, length};
 ghost use Rattle.grammar.specs.Syntax.{Path};
 ghost use Rattle.selection.specs.Selects.{Store};

@@ -1,5 +1,5 @@
 -- What the check of a program's bytes says of them.
-use Rattle.std.proofs.Common.{◌≡◌, ℕ, Bool, true, false, cond, Ok, Err, Result, refl, ap, ◌∙◌, arith}
+use Rattle.std.proofs.Common.{◌≡◌, ℕ, Bool, true, false, cond, Ok, Err, Result, refl, ap, arith}
 use Rattle.program.specs.declared.fault.Fault.{Fault as Refused}
 use Rattle.program.specs.declared.fault.Fault.TheVariants.{Broken}
 use Rattle.selector.specs.declared.fault.Fault.{Fault}

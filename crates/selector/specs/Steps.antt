@@ -1,5 +1,5 @@
 -- What each call does, by the phase and the call together.
-use Rattle.std.specs.Prelude.{ℕ, ◌+◌, ◌-◌, Bool, true, false, cond, not, ◌&&◌, List, [], ◌∷◌, length, take, Some, None, Ok, Err, Option, Result, ◌==◌, nat_le}
+use Rattle.std.specs.Prelude.{ℕ, ◌+◌, ◌-◌, Bool, true, false, cond, ◌&&◌, List, [], length, take, Some, None, Ok, Err, Option, Result, ◌==◌, nat_le}
 use Rattle.selector.specs.Codes.{bad_program}
 use Rattle.selector.specs.declared.phase.Phase.{Phase}
 use Rattle.selector.specs.declared.phase.Phase.TheVariants.{Empty, Rising, Falling, Settled}

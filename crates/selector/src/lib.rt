@@ -1,4 +1,6 @@
 // A selector carries a program over a tree by the calls load, rise, fall and tally.
+#![tactic(auto)]
+
 pub mod calls;
 mod falling;
 pub mod fault;

@@ -1,3 +1,5 @@
+#![tactic(auto)]
+
 // Tests of the selector: phases, refusals, and calls in any order against a plain evaluation.
 #[cfg(test)]
 mod tests {

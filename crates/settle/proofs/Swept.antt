@@ -1,11 +1,11 @@
 -- A load, a rise and a fall over all nodes settle a selector.
-use Rattle.std.proofs.Common.{◌≡◌, ℕ, ◌+◌, ◌-◌, ◌<◌, ◌≤◌, Bool, true, false, cond, eqb, leb, List, [], length, Some, None, Ok, Err, Option, Result, sym, refl, ap, ◌∙◌, subst, arith}
-use Rattle.std.proofs.lemmas.Bool.{eq-eqb, le-leb, lt-leb, and_parts}
+use Rattle.std.proofs.Common.{◌≡◌, ℕ, ◌+◌, ◌-◌, ◌<◌, ◌≤◌, Bool, true, false, cond, eqb, leb, List, [], length, Some, None, Ok, Err, Option, Result, refl, ap, ◌∙◌, arith}
+use Rattle.std.proofs.lemmas.Bool.{eq-eqb, le-leb, lt-leb}
 use Rattle.program.specs.declared.fault.Fault.{Fault as BrokenFault}
 use Rattle.program.specs.declared.fault.Fault.TheVariants.{Broken}
 use Rattle.rows.specs.Rows.{Row, count_of, Lawful}
 use Rattle.grammar.specs.Syntax.{Path}
-use Rattle.automata.specs.Program.{Program, Marks}
+use Rattle.automata.specs.Program.{Marks}
 use Rattle.selection.specs.Selects.{Store, Selects}
 use Rattle.translation.specs.Translation.{Translation}
 use Rattle.commands.specs.Commands.{commands_of}
@@ -15,15 +15,14 @@ use Rattle.sweep.specs.Falling.{fallen}
 use Rattle.sweep.proofs.Risen.{length_risen}
 use Rattle.sweep.proofs.Lengths.{length_fallen}
 use Rattle.tally.specs.Monoid.{Laws}
-use Rattle.tallying.specs.Nodes.{Lists, marked_nodes}
+use Rattle.tallying.specs.Nodes.{marked_nodes}
 use Rattle.tallying.proofs.Lists.{lists_over}
 use Rattle.selector.specs.Codes.{bad_program}
 use Rattle.selector.specs.declared.fault.Fault.{Fault}
 use Rattle.selector.specs.declared.fault.Fault.TheVariants.{SmallWork}
-use Rattle.selector.specs.declared.phase.Phase.{Phase}
-use Rattle.selector.specs.declared.phase.Phase.TheVariants.{Empty, Rising, Falling, Settled}
-use Rattle.selector.specs.Calls.{load, rise, fall, tally}
-use Rattle.selector.specs.Steps.{State, refusal, unready, unless_so, before, granted_or, moved, rewritten, phase_words, state_after, words_after, told_nodes}
+use Rattle.selector.specs.declared.phase.Phase.TheVariants.{Rising, Falling, Settled}
+use Rattle.selector.specs.Calls.{load, rise, fall}
+use Rattle.selector.specs.Steps.{State, refusal, unless_so, before, granted_or, moved, rewritten, state_after, words_after}
 use Rattle.history.specs.History.{Progress}
 use Rattle.history.proofs.Stages.{mk, rules, unready_is, SettledSo}
 use Rattle.history.proofs.Laws.{selected, due_none}

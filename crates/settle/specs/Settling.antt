@@ -1,9 +1,8 @@
 -- Loading a program and both sweeps over all nodes, in one call.
-use Rattle.std.specs.Prelude.{◌≡◌, ℕ, ◌-◌, ◌≤◌, List, length, Some, None, Option, nat_le}
+use Rattle.std.specs.Prelude.{◌≡◌, ℕ, ◌-◌, ◌≤◌, List, length, None, Option, nat_le}
 use Rattle.rows.specs.Rows.{Row, count_of}
 use Rattle.grammar.specs.Syntax.{Path}
 use Rattle.selection.specs.Selects.{Store, Selects}
-use Rattle.translation.specs.Translation.{Translation}
 use Rattle.commands.specs.Commands.{commands_of}
 use Rattle.commands.specs.Rules.{after_deciding}
 use Rattle.commands.specs.Checked.{accepted}

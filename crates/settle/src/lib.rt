@@ -1,4 +1,6 @@
 // A selector settled in one call: a program loaded, and both sweeps over all nodes.
+#![tactic(auto)]
+
 ghost use Rattle.std.specs.Prelude.{◌≡◌, ℕ, List, None};
 ghost use Rattle.grammar.specs.Syntax.{Path};
 ghost use Rattle.selection.specs.Selects.{Store};

@@ -1,12 +1,12 @@
 -- What the parentheses of rows answer.
-use Rattle.std.proofs.Common.{◌≡◌, ℕ, zero, suc, ◌+◌, ◌-◌, ◌*◌, ◌<◌, ◌≤◌, Bool, true, false, cond, ◌&&◌, eqb, ltb, leb, ◌⊎◌, List, [], ◌∷◌, length, get_or, drop, Some, None, Option, sym, refl, ap, ◌∙◌, subst, inl, inr, ⊎_elim, arith}
+use Rattle.std.proofs.Common.{◌≡◌, ℕ, zero, suc, ◌+◌, ◌-◌, ◌*◌, ◌<◌, ◌≤◌, Bool, true, false, cond, ltb, List, [], ◌∷◌, length, get_or, drop, Some, None, sym, refl, ap, ◌∙◌, ⊎_elim, arith}
 use Rattle.std.proofs.lemmas.Bool.Decides.{nat_tests}
-use Rattle.std.proofs.lemmas.Bool.{and_parts, leb-true, eqb-true, ltb-true, ltb-false, cond-true, cond-false, eq-eqb, ne_eqb, cases_eq}
+use Rattle.std.proofs.lemmas.Bool.{and_parts, ltb-true, ltb-false, cond-true, cond-false, eq-eqb, ne_eqb, cases_eq}
 use Rattle.rows.specs.Rows.{Row}
 use Rattle.rows.specs.Answers.{run, first_from, next_from}
-use Rattle.rows.specs.Lawful.{IsLawful, lawful, follow, reach}
+use Rattle.rows.specs.Lawful.{IsLawful, follow, reach}
 use Rattle.shape.specs.Bits.{select, close}
-use Rattle.shape.specs.Shape.{closing, parens_onto, parens}
+use Rattle.shape.specs.Shape.{closing, parens_onto}
 
 -- no row is deeper than the nodes that are open before it
 abbrev pub Stepped : ℕ → List Row → Type 0

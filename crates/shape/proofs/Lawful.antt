@@ -1,11 +1,11 @@
 -- Parentheses and labels that are of a tree.
-use Rattle.std.proofs.Common.{◌≡◌, ℕ, zero, suc, ◌+◌, ◌-◌, ◌*◌, ◌<◌, ◌≤◌, Bool, true, false, cond, ◌&&◌, eqb, ltb, leb, List, [], ◌∷◌, ◌++◌, map, length, get_or, take, drop, sym, refl, ap, ◌∙◌, subst, add-one, arith, length-drop}
+use Rattle.std.proofs.Common.{◌≡◌, ℕ, zero, suc, ◌+◌, ◌-◌, ◌*◌, ◌<◌, ◌≤◌, Bool, true, false, cond, ◌&&◌, eqb, leb, List, [], ◌∷◌, ◌++◌, map, length, get_or, take, drop, sym, refl, ap, ◌∙◌, subst, add-one, arith, length-drop}
 use Rattle.std.proofs.lemmas.List.{drop_more, drop_all, take_all}
 use Rattle.std.proofs.lemmas.Bool.Decides.{nat_tests}
-use Rattle.std.proofs.lemmas.Bool.{and_parts, and_from, and_left, leb-true, eqb-true, ne_eqb}
+use Rattle.std.proofs.lemmas.Bool.{and_parts, and_from, and_left, eqb-true, ne_eqb}
 use Rattle.rows.specs.Rows.{Row}
-use Rattle.rows.specs.Lawful.{IsLawful, lawful, follow, reach, inner_label}
-use Rattle.shape.specs.Shape.{closing, parens_onto, parens, rows_from, labels_of}
+use Rattle.rows.specs.Lawful.{IsLawful, follow, reach, inner_label}
+use Rattle.shape.specs.Shape.{closing, parens_onto, rows_from, labels_of}
 use Rattle.shape.specs.Walk.{reach_of, walk, walk_all}
 use Rattle.shape.proofs.Answers.{Stepped, follow_stepped}
 

@@ -1,11 +1,11 @@
 -- The laws of the parentheses of a tree.
-use Rattle.std.proofs.Common.{◌≡◌, ℕ, zero, suc, ◌+◌, ◌-◌, ◌*◌, ◌<◌, ◌≤◌, Bool, true, false, cond, List, [], ◌∷◌, length, get_or, take, drop, Some, None, sym, refl, ap, ◌∙◌, subst, arith}
+use Rattle.std.proofs.Common.{◌≡◌, ℕ, zero, suc, ◌+◌, ◌<◌, Bool, true, false, cond, List, [], ◌∷◌, length, get_or, take, drop, Some, None, sym, refl, ap, ◌∙◌, subst, arith}
 use Rattle.rows.specs.Rows.{Row}
 use Rattle.rows.specs.Answers.{size_of}
 use Rattle.rows.specs.Lawful.{IsLawful}
 use Rattle.rows.proofs.Laws.{of_lawful, to_lawful}
 use Rattle.shape.specs.Bits.{openings, select, close}
-use Rattle.shape.specs.Shape.{closing, parens, parens_onto, rows_from, labels_of}
+use Rattle.shape.specs.Shape.{closing, parens, rows_from, labels_of}
 use Rattle.shape.specs.Matching.{Matches}
 use Rattle.shape.specs.Laws.{RowsBack, TwoEach, opening_place, closing_place, ParensPlaced, RelationsShown, BitsPacked, example, ExamplePacked}
 use Rattle.shape.proofs.Answers.{lawful_stepped}

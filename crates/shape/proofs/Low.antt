@@ -1,13 +1,13 @@
 -- The least excess, found from part to part.
-use Rattle.std.proofs.Common.{◌≡◌, ℕ, zero, suc, ◌+◌, ◌-◌, ◌*◌, ◌/◌, ◌%◌, ◌^◌, ◌<◌, ◌≤◌, Bool, true, false, eqb, List, [], ◌∷◌, ◌++◌, length, get_or, take, drop, ℤ, pos, negsuc, ◌+ℤ◌, neg_ℤ, ◌≤ℤ◌, sym, refl, ap, ◌∙◌, subst, arith, length-drop, length-take, w8, w32, SFits, to_z, of_z}
+use Rattle.std.proofs.Common.{◌≡◌, ℕ, zero, suc, ◌+◌, ◌-◌, ◌*◌, ◌/◌, ◌%◌, ◌^◌, ◌<◌, ◌≤◌, Bool, true, false, eqb, List, [], ◌∷◌, ◌++◌, length, get_or, take, drop, ℤ, pos, negsuc, ◌+ℤ◌, neg_ℤ, ◌≤ℤ◌, sym, refl, ap, ◌∙◌, arith, length-drop, length-take, w8, w32, SFits, to_z, of_z}
 use lib.Signed.{mag}
-use Rattle.std.proofs.lemmas.List.{drop_more, append-nil, drop-drop, take_at, take-append-drop}
+use Rattle.std.proofs.lemmas.List.{drop_more, append-nil, drop-drop}
 use Rattle.std.proofs.lemmas.Int.{ints, clamps}
 use Rattle.std.specs.Int.{int_min}
 use Rattle.excess.specs.Excess.{step, bits, total_bits, least_bits, total_of, least_of}
 use Rattle.shape.specs.Bits.{bits_of, openings}
 use Rattle.shape.specs.Stretch.{stretch, low}
-use Rattle.shape.proofs.Bytes.{byte_split, bits_length}
+use Rattle.shape.proofs.Bytes.{byte_split}
 use Rattle.shape.proofs.Skips.{total_openings, openings_length}
 
 pub low_same : (e f l m : ℤ) (t : List Bool) → e ≡ f → l ≡ m → low e l t ≡ low f m t

@@ -1,9 +1,9 @@
 -- One step of a search over the bits bs: from a place to the next bit or byte.
-use Rattle.std.proofs.Common.{◌≡◌, ℕ, zero, suc, ◌+◌, ◌-◌, ◌*◌, ◌<◌, ◌≤◌, Bool, true, false, cond, List, [], ◌∷◌, ◌++◌, length, get_or, take, drop, ℤ, pos, negsuc, ◌+ℤ◌, ◌≤ℤ◌, sym, refl, ap, ◌∙◌, subst, add-one, arith}
+use Rattle.std.proofs.Common.{◌≡◌, ℕ, zero, suc, ◌+◌, ◌-◌, ◌*◌, ◌<◌, ◌≤◌, Bool, true, false, List, [], ◌∷◌, length, get_or, take, drop, pos, ◌+ℤ◌, ◌≤ℤ◌, refl, ap, ◌∙◌, add-one, arith}
 use Rattle.std.proofs.lemmas.List.{drop_more, drop_all}
 use Rattle.std.proofs.lemmas.Int.{ints, clamps}
 use Rattle.excess.specs.Excess.{bits, total_bits, least_bits, total_of, least_of}
-use Rattle.shape.specs.Bits.{bits_of, openings, openings_of, select, close}
+use Rattle.shape.specs.Bits.{bits_of, openings_of, select, close}
 use Rattle.shape.proofs.Skips.{select_skip, close_skip, total_openings, openings_length}
 use Rattle.shape.proofs.Bytes.{byte_split, split}
 

@@ -3,7 +3,7 @@ use Rattle.std.specs.Prelude.{◌≡◌, ℕ, ◌+◌, ◌-◌, ◌*◌, ◌<◌
 use Rattle.rows.specs.Rows.{Row, row, Lawful, count_of, depth_of}
 use Rattle.rows.specs.Answers.{size_of, first_of, next_of}
 use Rattle.shape.specs.Bits.{bits_of, openings}
-use Rattle.shape.specs.Shape.{parens, parens_onto, closing, rows_from, labels_of}
+use Rattle.shape.specs.Shape.{parens, closing, rows_from, labels_of}
 use Rattle.shape.specs.Packing.{packed}
 use Rattle.shape.specs.Matching.{Matches}
 

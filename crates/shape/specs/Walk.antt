@@ -1,6 +1,5 @@
 -- One walk over parentheses and labels that tells whether they are of a tree.
-use Rattle.std.specs.Prelude.{ℕ, zero, suc, ◌-◌, Bool, true, false, cond, ◌&&◌, List, [], ◌∷◌, length, ◌==◌, nat_le}
-use Rattle.rows.specs.Rows.{Row}
+use Rattle.std.specs.Prelude.{ℕ, suc, ◌-◌, Bool, true, false, cond, ◌&&◌, List, [], ◌∷◌, length, ◌==◌, nat_le}
 use Rattle.rows.specs.Lawful.{inner_label}
 
 -- the deepest row that may follow one of depth k and label l

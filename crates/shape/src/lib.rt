@@ -1,4 +1,6 @@
 // Parentheses and the rows of a tree: the laws that the code above rests on.
+#![tactic(auto)]
+
 ghost use Rattle.std.specs.Prelude.{◌≡◌, ◌*◌, List, length};
 ghost use Rattle.rows.specs.Rows.{Row, Lawful, count_of};
 ghost use Rattle.shape.specs.Shape.{parens};

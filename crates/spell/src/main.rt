@@ -1,4 +1,6 @@
 // Reads a query from standard input, and prints its short spelling or the refusal.
+#![tactic(auto)]
+
 use anyhow::anyhow;
 use query::parsed::Query;
 use reader::read;

@@ -2,7 +2,7 @@
 use Rattle.std.proofs.Common.{◌≡◌, ℕ, ◌+◌, ◌-◌, ◌<◌, ◌≤◌, Bool, true, false, List, [], ◌∷◌, length, Some, None, Option, sym, refl, ap, ◌∙◌, subst, arith}
 use Rattle.grammar.specs.declared.tokens.Symbol.TheVariants.{LeftBracket, RightBracket, LeftParen, RightParen}
 use Rattle.grammar.specs.Tokens.{Token, symbol, word}
-use Rattle.grammar.specs.Syntax.{Axis, NodeTest, Path, first, more, Filter, plain, holds, Pred, some, not, and, or, own, in_path, in_filter, in_pred, not_word, and_word, or_word}
+use Rattle.grammar.specs.Syntax.{NodeTest, Path, first, more, Filter, plain, holds, Pred, some, not, and, or, own, in_path, in_filter, in_pred, not_word, and_word, or_word}
 use Rattle.grammar.specs.Machine.{Where, outer, inner}
 use Rattle.grammar.specs.Spelling.{test_t, filter_t, pred_t, path_t, Place, low, mid, high, wrap, and_wraps, or_wraps}
 use Rattle.query.specs.declared.table.Table.{Table}
@@ -10,7 +10,7 @@ use Rattle.query.specs.declared.table.Step.{Step}
 use Rattle.query.specs.declared.table.Shape.{Shape}
 use Rattle.query.specs.declared.table.Shape.TheVariants as shape
 use Rattle.query.specs.declared.table.Predicate.{Predicate}
-use Rattle.query.specs.Shown.{axis_of, ShowsTest, ShowsHere, ShowsPath, ShowsFilter, ShowsPred, step_at, predicate_at, index, taken, within, preds_path, preds_filter, below}
+use Rattle.query.specs.Shown.{axis_of, ShowsTest, ShowsPath, ShowsFilter, ShowsPred, step_at, predicate_at, index, taken, within, preds_path, preds_filter, below}
 use Rattle.spelling.specs.declared.writer.Writer.{Writer}
 use Rattle.spelling.specs.Writing.{total, Emits}
 use Rattle.spelling.specs.Spellings.{most, lead_t, open_t, close_t, Part, part, rest_t, parts, root, ShowsFrom, preds_parts, nots, Later}

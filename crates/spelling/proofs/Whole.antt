@@ -1,8 +1,7 @@
 -- A whole query is written.
-use Rattle.std.proofs.Common.{◌≡◌, ℕ, ◌+◌, ◌<◌, ◌≤◌, Bool, true, false, List, [], ◌∷◌, length, take, Some, None, sym, refl, ap, ◌∙◌, subst, arith}
-use Rattle.grammar.specs.Tokens.{Token}
-use Rattle.grammar.specs.Machine.{Where, outer}
-use Rattle.grammar.specs.Spelling.{path_t, spell, write}
+use Rattle.std.proofs.Common.{◌≡◌, ℕ, ◌+◌, ◌<◌, ◌≤◌, Bool, false, List, [], length, take, Some, None, refl, ap, ◌∙◌, subst, arith}
+use Rattle.grammar.specs.Machine.{outer}
+use Rattle.grammar.specs.Spelling.{path_t, spell}
 use Rattle.grammar.proofs.Reading.{sound}
 use Rattle.grammar.proofs.Spelt.{shortest}
 use Rattle.query.specs.declared.parsed.Query.{Query}

@@ -3,7 +3,7 @@ use Rattle.std.proofs.Common.{◌≡◌, ℕ, ◌+◌, ◌<◌, ◌≤◌, Bool,
 use Rattle.std.proofs.lemmas.List.{take_more, take_all}
 use Rattle.grammar.specs.declared.tokens.Symbol.{Symbol}
 use Rattle.grammar.specs.Tokens.{Token, symbol, word}
-use Rattle.grammar.specs.Spelling.{glyph, bytes, gap, write}
+use Rattle.grammar.specs.Spelling.{glyph, gap, write}
 use Rattle.spelling.specs.declared.writer.Writer.{Writer}
 use Rattle.spelling.specs.Writing.{gapped, total, Emits, Puts, gap_of}
 

@@ -1,10 +1,10 @@
 -- The parts of a spelling.
 use Rattle.std.specs.Prelude.{◌≡◌, ℕ, ◌+◌, ◌<◌, ◌≤◌, Bool, true, false, List, [], ◌∷◌, Some, None, Option}
-use Rattle.grammar.specs.declared.tokens.Symbol.TheVariants.{Slash, DoubleSlash, LeftParen, RightParen, DoubleColon}
+use Rattle.grammar.specs.declared.tokens.Symbol.TheVariants.{Slash, LeftParen, RightParen, DoubleColon}
 use Rattle.grammar.specs.Tokens.{Token, symbol, word}
 use Rattle.grammar.specs.Syntax.{Axis, NodeTest, Path, first, more, Filter, Pred, some, not, and, or, in_filter}
 use Rattle.grammar.specs.Machine.{Where, outer, inner}
-use Rattle.grammar.specs.Spelling.{slash_t, axis_t, test_t, filter_t, pred_t, Place, low, mid, high}
+use Rattle.grammar.specs.Spelling.{slash_t, axis_t, test_t, filter_t, Place, low, mid, high}
 use Rattle.query.specs.declared.table.Table.{Table}
 use Rattle.query.specs.Shown.{axis_of, ShowsTest, ShowsFilter, step_at, index, taken, preds_filter}
 use Rattle.spelling.specs.declared.parts.Place.TheVariants.{Low, Middle, High}

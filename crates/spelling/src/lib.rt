@@ -1,4 +1,6 @@
 // Writes the short spelling of a query.
+#![tactic(auto)]
+
 ghost use Rattle.std.specs.Prelude.{◌≡◌, ◌≤◌, false, length, take};
 ghost use Rattle.grammar.specs.Machine.{outcome, accepted};
 ghost use Rattle.grammar.specs.Spelling.{spell as short};

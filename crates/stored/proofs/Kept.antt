@@ -1,15 +1,13 @@
 -- The stored rows of a tree are those that have each node's label, distance and size, and they stand for its rows.
-use Rattle.std.proofs.Common.{◌≡◌, ℕ, zero, suc, ◌+◌, ◌-◌, ◌<◌, ◌≤◌, Bool, true, false, cond, eqb, ◌⊎◌, List, [], ◌∷◌, map, length, get_or, sym, refl, ap, ◌∙◌, subst, inl, inr, ⊎_elim, arith}
-use Rattle.std.specs.List.{range_with_len}
+use Rattle.std.proofs.Common.{◌≡◌, ℕ, zero, suc, ◌+◌, ◌-◌, ◌<◌, ◌≤◌, List, [], ◌∷◌, length, get_or, sym, refl, ap, ◌∙◌, subst, ⊎_elim, arith}
 use Rattle.std.proofs.lemmas.List.FromFn.{length-map-range_with_len, get_or-map-range_with_len, fill_by_all}
 use Rattle.std.proofs.lemmas.Bool.{cases_lt, cond-true, cond-false, eq-eqb, ne_eqb}
-use Rattle.rows.specs.Rows.{Row, row, nobody, count_of, depth_of, label_of, Lawful, Descendant, Child}
+use Rattle.rows.specs.Rows.{Row, row, nobody, count_of, depth_of, label_of, Lawful, Child}
 use Rattle.rows.specs.Lawful.{IsLawful}
-use Rattle.rows.specs.Answers.{size_of}
 use Rattle.rows.proofs.Laws.{to_lawful, of_lawful}
 use Rattle.stored.specs.declared.row.StoredRow.{StoredRow}
-use Rattle.stored.specs.Stored.{stored, blank, at, back, distance_of, stored_at, stored_of, depth_at, rows_from, rows_of, OfTree, Stores}
-use Rattle.stored.specs.Claims.{Kept, RowsKept, TreesKnown}
+use Rattle.stored.specs.Stored.{stored, blank, at, distance_of, stored_at, stored_of, depth_at, rows_from, rows_of, OfTree, Stores}
+use Rattle.stored.specs.Claims.{RowsKept, TreesKnown}
 use Rattle.stored.proofs.Subtrees.{back_found, back_above, back_some}
 
 pub rows_length : (ds : List ℕ) (es : List StoredRow) → length (rows_from ds es) ≡ length es

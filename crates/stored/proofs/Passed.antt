@@ -1,7 +1,7 @@
 -- One pass over stored rows decides whether they are of a tree.
-use Rattle.std.proofs.Common.{◌≡◌, ℕ, zero, suc, ◌+◌, ◌-◌, ◌<◌, ◌≤◌, ◌⊎◌, List, [], length, sym, refl, ap, ◌∙◌, subst, inl, inr, ⊎_elim, arith}
+use Rattle.std.proofs.Common.{◌≡◌, ℕ, zero, suc, ◌+◌, ◌-◌, ◌<◌, ◌≤◌, List, [], length, sym, ap, ◌∙◌, subst, ⊎_elim, arith}
 use Rattle.std.proofs.lemmas.Bool.{cases_lt}
-use Rattle.rows.specs.Rows.{Row, count_of, depth_of, label_of, Lawful, Child}
+use Rattle.rows.specs.Rows.{Row, count_of, depth_of, Lawful, Child}
 use Rattle.rows.specs.Answers.{size_of}
 use Rattle.stored.specs.declared.row.StoredRow.{StoredRow}
 use Rattle.stored.specs.Stored.{at, rows_of, OfTree, Stores}

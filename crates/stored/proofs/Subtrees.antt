@@ -1,10 +1,10 @@
 -- Depths inside and after a subtree, and how far back a parent is.
-use Rattle.std.proofs.Common.{◌≡◌, ℕ, zero, suc, ◌+◌, ◌-◌, ◌<◌, ◌≤◌, Bool, true, false, cond, ltb, ◌⊎◌, List, [], ◌∷◌, length, get_or, drop, sym, refl, ap, ◌∙◌, subst, inl, inr, ⊎_elim, arith}
+use Rattle.std.proofs.Common.{◌≡◌, ℕ, zero, suc, ◌+◌, ◌-◌, ◌<◌, ◌≤◌, Bool, true, false, ltb, ◌⊎◌, List, [], ◌∷◌, length, sym, refl, subst, inl, inr, ⊎_elim, arith}
 use Rattle.std.proofs.lemmas.Bool.Decides.{nat_tests}
 use Rattle.std.proofs.lemmas.Bool.{cases_lt, cond-true, cond-false, ltb-true, ltb-false, lt-ltb, le-ltb}
-use Rattle.rows.specs.Rows.{Row, nobody, count_of, depth_of}
+use Rattle.rows.specs.Rows.{Row, depth_of}
 use Rattle.rows.specs.Answers.{run, size_of}
-use Rattle.stored.specs.Stored.{back, distance_of}
+use Rattle.stored.specs.Stored.{back}
 
 run_inside : (d : ℕ) (rs : List Row) (k : ℕ) → k < run d rs → d < depth_of rs k
 run_inside d [] k h = absurd (omega arith)

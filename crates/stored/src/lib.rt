@@ -1,4 +1,6 @@
 // Stored rows: a tree as a table with one row a node.
+#![tactic(auto)]
+
 ghost use Rattle.std.specs.Prelude.{◌≡◌, [], ◌∷◌};
 ghost use Rattle.rows.specs.Rows.{lone};
 ghost use Rattle.stored.specs.Stored.{stored_of};

@@ -1,5 +1,5 @@
 -- After the falls the states have entered as they should.
-use Rattle.std.proofs.Common.{◌≡◌, ℕ, zero, suc, ◌+◌, ◌<◌, ◌≤◌, Bool, true, false, cond, ◌&&◌, T, ◌⊎◌, ◌↔◌, List, [], ◌∷◌, length, get_or, sym, refl, ap, ◌∙◌, subst, inl, inr, ⊎_elim, arith}
+use Rattle.std.proofs.Common.{◌≡◌, ℕ, zero, suc, ◌+◌, ◌<◌, ◌≤◌, Bool, true, false, T, ◌⊎◌, ◌↔◌, List, [], ◌∷◌, length, get_or, sym, refl, ap, ◌∙◌, subst, inl, inr, ⊎_elim, arith}
 use mathlib.Core.Logic.Iff
 use Rattle.rows.specs.Rows.{Row, count_of as count, Lawful}
 use Rattle.automata.specs.Program.{Formula, Rule, Program, Proper, ProperRules, Every, Goes, Decisions, Makes, Leads, Entered}
@@ -7,16 +7,14 @@ use Rattle.automata.specs.Program as program
 use Rattle.automata.specs.Claims.{Falls}
 use Rattle.automata.proofs.Falls.{falling}
 use Rattle.words.specs.Bit.{bit}
-use Rattle.commands.specs.declared.command.Move.{Move}
 use Rattle.commands.specs.declared.command.Command.{Command}
-use Rattle.commands.specs.declared.command.Command.TheVariants.{Value, And, Or, Not, Define, When, Make, Done, End}
 use Rattle.commands.specs.Commands.{commands_of}
 use Rattle.commands.specs.Decoded.{move}
 use Rattle.commands.proofs.Grammar.{Sends, Below, Decoded, decoded_reads, rest_after}
 use Rattle.commands.proofs.Grammar as reads
 use Rattle.sweep.specs.Falling.{made, acting, sent, place_at, fallen}
 use Rattle.commands.specs.Rules.{after_deciding}
-use Rattle.sweep.specs.Claims.{decisions, Rose, Fell, FallsRight}
+use Rattle.sweep.specs.Claims.{decisions, FallsRight}
 use Rattle.sweep.proofs.Risen.{T_and, T-same}
 use Rattle.sweep.proofs.Adds.{Adds, adds_none, adds_then, adds_same, adds_kept, move_adds, leads_away}
 

@@ -1,5 +1,5 @@
 -- A node that no sending state enters makes no move and is not marked.
-use Rattle.std.proofs.Common.{◌≡◌, ℕ, ◌+◌, ◌^◌, ◌<◌, Bool, false, ◌&&◌, ◌||◌, List, [], ◌∷◌, get_or, refl, ap, ◌∙◌, arith}
+use Rattle.std.proofs.Common.{◌≡◌, ℕ, ◌+◌, ◌^◌, ◌<◌, Bool, false, ◌&&◌, List, [], ◌∷◌, get_or, refl, ap, ◌∙◌, arith}
 use Rattle.words.specs.Bit.{bit}
 use Rattle.words.proofs.Bits.{bit_past}
 use Rattle.commands.specs.declared.command.Command.{Command}

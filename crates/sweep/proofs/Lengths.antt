@@ -1,5 +1,5 @@
 -- The sweeps keep the length of the work area.
-use Rattle.std.proofs.Common.{◌≡◌, ℕ, zero, suc, ◌+◌, Bool, true, false, cond, List, [], ◌∷◌, length, get_or, set, Some, None, Option, refl, ◌∙◌, length-set}
+use Rattle.std.proofs.Common.{◌≡◌, ℕ, zero, suc, ◌+◌, Bool, true, false, cond, List, [], ◌∷◌, length, get_or, Some, None, Option, refl, ◌∙◌, length-set}
 use Rattle.rows.specs.Rows.{Row}
 use Rattle.words.specs.Bit.{with_bit}
 use Rattle.commands.specs.declared.command.Move.{Move}

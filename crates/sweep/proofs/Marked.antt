@@ -1,9 +1,9 @@
 -- The marks of a word are those of its node.
-use Rattle.std.proofs.Common.{◌≡◌, ℕ, zero, suc, ◌+◌, ◌<◌, ◌≤◌, Bool, true, false, ◌&&◌, ◌||◌, T, ◌⊎◌, ◌↔◌, List, [], ◌∷◌, length, get_or, sym, refl, ap, ◌∙◌, subst, inl, inr, ⊎_elim, arith}
+use Rattle.std.proofs.Common.{◌≡◌, ℕ, zero, suc, ◌+◌, ◌<◌, Bool, false, ◌&&◌, T, ◌⊎◌, ◌↔◌, List, [], ◌∷◌, length, get_or, sym, refl, subst, inl, inr, ⊎_elim, arith}
 use mathlib.Core.Logic.Iff
 use native.Mathlib.Decide.{dec_lt}
 use lib.ListN.{get_or-eq_default}
-use Rattle.rows.specs.Rows.{Row, count_of as count}
+use Rattle.rows.specs.Rows.{count_of as count}
 use Rattle.automata.specs.Program.{Rule, Program, Proper, ProperRules, Decisions, Makes, Enters}
 use Rattle.automata.specs.Program as program
 use Rattle.automata.proofs.Falls.{falling}

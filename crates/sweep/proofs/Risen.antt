@@ -1,9 +1,9 @@
 -- After a rise over all nodes the words are right.
-use Rattle.std.proofs.Common.{◌≡◌, ℕ, zero, suc, ◌+◌, ◌<◌, ◌≤◌, Bool, true, false, not, ◌&&◌, ◌||◌, T, eqb, leb, ◌⊎◌, ◌↔◌, List, [], ◌∷◌, length, get_or, set, Some, None, Option, sym, refl, ap, ◌∙◌, subst, inl, inr, ⊎_elim, arith, length-set, get_or-set_other, get_or-set_same}
+use Rattle.std.proofs.Common.{◌≡◌, ℕ, zero, suc, ◌+◌, ◌<◌, ◌≤◌, Bool, true, false, not, ◌&&◌, ◌||◌, T, eqb, leb, ◌⊎◌, ◌↔◌, List, [], length, get_or, set, Some, None, Option, sym, refl, ap, ◌∙◌, subst, inl, inr, ⊎_elim, arith, length-set, get_or-set_other, get_or-set_same}
 use mathlib.Core.Logic.Iff
 use native.Mathlib.Decide.{dec_lt}
 use Rattle.std.proofs.lemmas.Bool.{eqb-true, eq-eqb, leb-true, le-leb, cases_eq}
-use Rattle.rows.specs.Rows.{Row, count_of as count, label_of as label, FirstChild, NextSibling, Lawful}
+use Rattle.rows.specs.Rows.{Row, count_of as count, label_of as label, FirstChild, NextSibling}
 use Rattle.rows.specs.Answers.{first_of as first_child, next_of as next_sibling}
 use Rattle.rows.specs.Claims.{Answers}
 use Rattle.automata.specs.Program.{Formula, Program, Proper, Decisions, OfKind, TrueAt, Names, Right}
@@ -11,16 +11,15 @@ use Rattle.automata.specs.Program as program
 use Rattle.rows.proofs.Questions.{questions}
 use Rattle.automata.proofs.Solutions.{next_unique}
 use Rattle.words.specs.Bit.{bit, put_bit}
-use Rattle.words.proofs.Bits.{bit_none, bit_set, bit_put, bit_put_kept}
+use Rattle.words.proofs.Bits.{bit_none, bit_put, bit_put_kept}
 use Rattle.commands.specs.declared.node.Node.{Node}
 use Rattle.commands.specs.declared.command.Command.{Command}
 use Rattle.commands.specs.Commands.{commands_of}
 use Rattle.commands.specs.Deciding.{decide}
-use Rattle.commands.specs.Decoded.{decoded}
-use Rattle.commands.proofs.Grammar.{Defines, Decoded, decoded_reads}
+use Rattle.commands.proofs.Grammar.{Defines, decoded_reads}
 use Rattle.commands.proofs.Values.{kind_value, value_of, same_value, word_values, clear_after}
 use Rattle.sweep.specs.Rising.{word_of, node_at, word_at, risen}
-use Rattle.sweep.specs.Claims.{decisions, Rose, RisesRight}
+use Rattle.sweep.specs.Claims.{decisions, RisesRight}
 
 -- tests as types
 pub so : (b : Bool) → T b → b ≡ true

@@ -1,5 +1,5 @@
 -- What the words mean after the sweeps.
-use Rattle.std.specs.Prelude.{◌≡◌, ℕ, ◌+◌, ◌<◌, ◌≤◌, Bool, false, T, ◌↔◌, List, length, Some, slice_index}
+use Rattle.std.specs.Prelude.{◌≡◌, ℕ, ◌+◌, ◌<◌, ◌≤◌, false, T, ◌↔◌, List, length, Some, slice_index}
 use Rattle.rows.specs.Rows.{Row, count_of as count, Lawful}
 use Rattle.automata.specs.Program.{Program, Proper, Decisions, Right, Entered, Marked}
 use Rattle.words.specs.Bit.{bit}

@@ -1,8 +1,8 @@
 -- The words that rising writes.
-use Rattle.std.specs.Prelude.{ℕ, zero, suc, List, [], ◌∷◌, Some, None, Option, ◌==◌, slice_index, slice_set}
+use Rattle.std.specs.Prelude.{ℕ, zero, suc, List, Some, None, Option, ◌==◌, slice_index, slice_set}
 use Rattle.rows.specs.Rows.{Row, label_of as label}
 use Rattle.rows.specs.Answers.{first_of as first_child, next_of as next_sibling}
-use Rattle.words.specs.Bit.{bit, put_bit}
+use Rattle.words.specs.Bit.{put_bit}
 use Rattle.commands.specs.declared.node.Node.{Node}
 use Rattle.commands.specs.declared.command.Command.{Command}
 use Rattle.commands.specs.Deciding.{decide}

@@ -1,4 +1,6 @@
 // Sweeps of a program over the nodes of a tree, with one word a node: what rises and falls leave in the words.
+#![tactic(auto)]
+
 ghost use Rattle.std.specs.Prelude.{◌≡◌};
 ghost use Rattle.sweep.specs.Claims.{RisesRight, FallsRight, MarksRight};
 

@@ -1,6 +1,6 @@
 -- The values of the three kinds of tally.
-use Rattle.std.specs.Prelude.{◌≡◌, ℕ, ◌+◌, ◌<◌, ◌≤◌, min, Bool, true, false, ◌||◌, List, [], ◌∷◌, ◌++◌, length, take, nat_lt, refl}
-use Rattle.std.proofs.Common.{sym, ap, subst, ◌∙◌, append_assoc, append-nil, arith, length-take, length-append, take_all}
+use Rattle.std.specs.Prelude.{◌≡◌, ℕ, ◌+◌, ◌≤◌, min, Bool, false, ◌||◌, List, [], ◌++◌, length, take, nat_lt, refl}
+use Rattle.std.proofs.Common.{sym, ap, subst, ◌∙◌, append_assoc, append-nil, arith, take_all}
 use Rattle.std.proofs.Math.Bridge.{le_prop}
 use Rattle.tally.specs.Twelve.{take_front, take_back, flag_assoc, or_false, flag_right, few_of}
 

@@ -1,4 +1,6 @@
 // Tallies: what is told of a list of nodes, by joining the marks of the nodes.
+#![tactic(auto)]
+
 ghost use Rattle.std.specs.Prelude.{◌≡◌, ℕ};
 
 pub mod count;

@@ -1,5 +1,5 @@
 -- Lists of nodes that are so, where other words say the same of them.
-use Rattle.std.proofs.Common.{ℕ, zero, suc, ◌+◌, ◌<◌, ◌≤◌, ◌⊎◌, ◌↔◌, List, inl, inr, arith}
+use Rattle.std.proofs.Common.{ℕ, zero, suc, ◌+◌, ◌<◌, ◌≤◌, ◌↔◌, List, inl, inr, arith}
 use Rattle.tallying.specs.Nodes.{Lists}
 
 pub lists_over : (Q R : ℕ → Type 0) (v k : ℕ) (vs : List ℕ) → ((w : ℕ) → v ≤ w → w < v + k → Q w ↔ R w) → Lists Q v k vs → Lists R v k vs

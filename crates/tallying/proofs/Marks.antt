@@ -1,5 +1,5 @@
 -- Laws of the marks of a list of nodes.
-use Rattle.std.proofs.Common.{◌≡◌, ℕ, zero, suc, ◌+◌, ◌<◌, ◌≤◌, Bool, true, false, cond, List, [], ◌∷◌, ◌++◌, sym, refl, ap, ◌∙◌, append_assoc, arith}
+use Rattle.std.proofs.Common.{◌≡◌, ℕ, zero, suc, ◌+◌, Bool, true, false, cond, List, [], ◌∷◌, ◌++◌, sym, refl, ap, ◌∙◌, arith}
 use Rattle.tally.specs.Monoid.{marks_of, Laws}
 use Rattle.commands.specs.declared.command.Command.{Command}
 use Rattle.tallying.specs.Nodes.{is_marked, marked_nodes}

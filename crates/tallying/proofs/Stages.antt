@@ -1,8 +1,8 @@
 -- The stages from load to tally.
-use Rattle.std.proofs.Common.{◌≡◌, ℕ, zero, suc, ◌+◌, ◌-◌, ◌<◌, ◌≤◌, Bool, true, false, cond, T, ◌⊎◌, ◌↔◌, List, [], ◌∷◌, length, get_or, set, sym, refl, ap, ◌∙◌, subst, inl, inr, ⊎_elim, arith}
+use Rattle.std.proofs.Common.{◌≡◌, ℕ, zero, suc, ◌+◌, ◌-◌, ◌<◌, ◌≤◌, false, T, ◌↔◌, List, ◌∷◌, set, sym, refl, ap, ◌∙◌, subst, inl, inr, ⊎_elim, arith}
 use Rattle.std.proofs.lemmas.Bool.{cases_Bool, cond-true, cond-false}
 use Rattle.rows.specs.Rows.{Row, count_of as count}
-use Rattle.automata.specs.Program.{Program, Marked}
+use Rattle.automata.specs.Program.{Marked}
 use Rattle.commands.specs.declared.command.Command.{Command}
 use Rattle.commands.specs.Commands.{commands_of}
 use Rattle.commands.specs.Rules.{after_deciding}
@@ -12,7 +12,7 @@ use Rattle.sweep.specs.Claims.{decisions}
 use Rattle.sweep.proofs.Risen.{rises_right, length_risen, is_so}
 use Rattle.sweep.proofs.Marked.{marks_right}
 use Rattle.tallying.specs.Nodes.{is_marked, marked_nodes, Lists}
-use Rattle.tallying.specs.Stages.{Loaded, Rising, Falling, Stages, StagesStand}
+use Rattle.tallying.specs.Stages.{StagesStand}
 
 -- two rises in a row, and two falls
 pub risen_join : (rows : List Row) (cs : List Command) (v a b : ℕ) (ws : List ℕ) → risen rows cs v a (risen rows cs (v + a) b ws) ≡ risen rows cs v (a + b) ws

@@ -8,7 +8,7 @@ use Rattle.commands.specs.Decoded.{decoded}
 use Rattle.commands.specs.Rules.{after_deciding}
 use Rattle.sweep.specs.Rising.{risen}
 use Rattle.sweep.specs.Falling.{fallen}
-use Rattle.sweep.specs.Claims.{Rose, decisions}
+use Rattle.sweep.specs.Claims.{Rose}
 use Rattle.tallying.specs.Nodes.{marked_nodes, Lists}
 
 -- a program that load grants, with its tree

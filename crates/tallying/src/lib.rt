@@ -1,4 +1,6 @@
 // Which nodes are marked after the sweeps, however rises and falls share out the nodes, and whatever the words held first.
+#![tactic(auto)]
+
 ghost use Rattle.std.specs.Prelude.{◌≡◌, ◌&&◌, nat_le};
 ghost use Rattle.tallying.specs.Bits.{RiseBits, FallBits};
 ghost use Rattle.tallying.specs.Stages.{StagesStand, WordsSettle};

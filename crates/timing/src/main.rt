@@ -2,6 +2,8 @@
 // 512 to 8,192 nodes and the queries are ten; with two files, one of a feed and one of queries, a line each, they are those.
 // For the harness that measures the stack, the word is a kind of tree, with a feed and a query as input, or `sizes` for the
 // sizes of types. Without arguments it only says what it takes.
+#![tactic(auto)]
+
 mod probe;
 
 use anyhow::anyhow;

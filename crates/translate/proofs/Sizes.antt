@@ -1,5 +1,5 @@
 -- A query's program has room in 2,048 bytes, and is a translation.
-use Rattle.std.proofs.Common.{◌≡◌, ℕ, zero, suc, ◌+◌, ◌≤◌, List, [], ◌∷◌, ◌++◌, reverse, length, take, drop, sym, refl, ap, ◌∙◌, subst, arith, length-append}
+use Rattle.std.proofs.Common.{◌≡◌, ℕ, ◌+◌, ◌≤◌, List, [], ◌∷◌, ◌++◌, reverse, length, take, drop, sym, refl, ap, ◌∙◌, arith, length-append}
 use lib.Seq.{take-append_seam, drop-append_seam}
 use Rattle.query.specs.declared.parsed.Query.{Query}
 use Rattle.query.proofs.Shown.{query_reads, query_shows}
@@ -11,8 +11,7 @@ use Rattle.selection.proofs.Accepted.{accepted_limited}
 use Rattle.selection.proofs.Limits.{translations_fit}
 use Rattle.selection.proofs.Theorem.{translates}
 use Rattle.translation.specs.Table.{insides, outsides, sends, program_of, Good}
-use Rattle.translation.specs.Translation.{Translation}
-use Rattle.translation.specs.Written.{states_code, rules_codes, text_of, Adds}
+use Rattle.translation.specs.Written.{states_code, rules_codes, Adds}
 use Rattle.translation.proofs.Says.{says_program}
 use Rattle.translation.proofs.Codes.{encoded_length}
 use Rattle.translation.proofs.States.{program_code}

@@ -1,4 +1,6 @@
 // From a query and a name store to the bytes of a program that marks what the query selects.
+#![tactic(auto)]
+
 ghost use Rattle.std.specs.Prelude.{◌≡◌, ◌+◌, ◌≤◌, ◌++◌, reverse, length, take, drop};
 ghost use Rattle.commands.specs.Encoded.{encoded};
 ghost use Rattle.translation.specs.Table.{insides, outsides, Good, program_of};

@@ -1,3 +1,5 @@
+#![tactic(auto)]
+
 // Queries that are translated, and the check of what was written.
 #[cfg(test)]
 mod tests {

@@ -1,5 +1,5 @@
 -- The bytes of what a predicate says, by its row.
-use Rattle.std.proofs.Common.{◌≡◌, ℕ, zero, suc, ◌+◌, ◌<◌, ◌≤◌, List, [], ◌∷◌, ◌++◌, length, sym, refl, ap, ◌∙◌, subst, arith, length-append}
+use Rattle.std.proofs.Common.{◌≡◌, ℕ, zero, suc, ◌+◌, ◌<◌, ◌≤◌, [], ◌∷◌, ◌++◌, length, refl, ap, ◌∙◌, subst, arith, length-append}
 use Rattle.std.proofs.lemmas.List.{append_assoc}
 use Rattle.grammar.specs.Syntax.{Axis, self, child, descendant, following_sibling}
 use Rattle.query.specs.declared.table.Shape.{Shape}
@@ -9,7 +9,7 @@ use Rattle.query.specs.Shown.{axis_of, step_at, predicate_at}
 use Rattle.grammar.specs.Machine.{inner}
 use Rattle.automata.specs.Program.{and, or}
 use Rattle.selection.specs.Translate.{beginning}
-use Rattle.translation.specs.Table.{asks_at, state_of, negated, said, Reaching}
+use Rattle.translation.specs.Table.{asks_at, state_of, said, Reaching}
 use Rattle.translation.specs.Written.{code, nots, beginning_code}
 use Rattle.translation.proofs.Reaching.{Opened, opened}
 use Rattle.translation.proofs.Codes.{code_and, code_or, code_negated}

@@ -1,12 +1,12 @@
 -- The bytes of formulas, states and programs, part by part.
-use Rattle.std.proofs.Common.{◌≡◌, ℕ, zero, suc, ◌+◌, ◌<◌, ◌≤◌, List, [], ◌∷◌, ◌++◌, length, Some, None, Option, sym, refl, ap, ◌∙◌, arith, length-append}
+use Rattle.std.proofs.Common.{◌≡◌, ℕ, zero, suc, ◌+◌, List, [], ◌∷◌, ◌++◌, length, Some, None, Option, sym, refl, ap, ◌∙◌, arith, length-append}
 use Rattle.std.proofs.lemmas.List.{append_assoc}
 use Rattle.grammar.specs.Syntax.{Axis, self, child, descendant, following_sibling}
 use Rattle.automata.specs.Program.{Formula, Rule, Program, formula_bytes, total, bytes}
 use Rattle.automata.specs.Program as program
 use Rattle.commands.specs.declared.command.Command.{Command}
-use Rattle.commands.specs.declared.command.Command.TheVariants.{And, Or, Not, Define, Done, When, Make, End}
-use Rattle.commands.specs.Encoded.{kind_bytes, bytes_of, kind_from, postfix, deciding_commands, move_from, move_bytes, move_commands, rule_commands, sending_commands, program_commands, encoded}
+use Rattle.commands.specs.declared.command.Command.TheVariants.{And, Or, Not, Define, Done}
+use Rattle.commands.specs.Encoded.{bytes_of, postfix, deciding_commands, move_from, move_bytes, move_commands, rule_commands, sending_commands, encoded}
 use Rattle.selection.specs.Translate.{both, looking}
 use Rattle.translation.specs.Table.{negated}
 use Rattle.translation.specs.Written.{nots, code, states_code, rules_code, rules_codes, sending_code, states_size, rules_size, sending_size, looking_code, both_code, both_size, looking_size}

@@ -1,5 +1,5 @@
 -- The bytes of the parts of a step.
-use Rattle.std.proofs.Common.{◌≡◌, ℕ, suc, ◌+◌, ◌-◌, ◌/◌, ◌%◌, ◌<◌, ◌≤◌, List, [], ◌∷◌, ◌++◌, length, take, drop, Some, Option, sym, refl, ap, ◌∙◌, subst, arith, length-append, length-drop, length-take}
+use Rattle.std.proofs.Common.{◌≡◌, ℕ, suc, ◌+◌, ◌/◌, ◌%◌, ◌<◌, ◌≤◌, List, [], ◌∷◌, ◌++◌, length, take, drop, Some, Option, sym, refl, ap, ◌∙◌, subst, arith, length-append, length-drop}
 use lib.Seq.{take-append-le, drop-append-le}
 use Rattle.std.proofs.lemmas.List.{append_assoc, take-append-drop}
 use Rattle.grammar.specs.Machine.{inner}
@@ -10,7 +10,7 @@ use Rattle.query.specs.declared.table.NodeTest.TheVariants.{Element, Name, Text,
 use Rattle.query.specs.Shown.{axis_of, step_at}
 use Rattle.names.specs.Store.{label_of}
 use Rattle.selection.specs.Selects.{Store}
-use Rattle.selection.specs.Translate.{both, looking}
+use Rattle.selection.specs.Translate.{both}
 use Rattle.translation.specs.Table.{state_of, asks_at, said, Reaching, test_says, bracket_says, next_says, step_says, inside_says, GoodTest, GoodBracket, GoodNext}
 use Rattle.translation.specs.Written.{code, both_code, looking_code}
 use Rattle.translation.proofs.Codes.{code_both, code_looking}

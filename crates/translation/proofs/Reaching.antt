@@ -1,5 +1,5 @@
 -- What a predicate says, by what the rows that it refers to say.
-use Rattle.std.proofs.Common.{◌≡◌, ℕ, zero, suc, ◌+◌, ◌<◌, ◌≤◌, sym, refl, ap, ◌∙◌, subst, arith}
+use Rattle.std.proofs.Common.{◌≡◌, ℕ, zero, suc, ◌<◌, refl, ap, ◌∙◌}
 use Rattle.query.specs.declared.table.Shape.{Shape}
 use Rattle.query.specs.declared.table.Shape.TheVariants as shape
 use Rattle.query.specs.declared.table.Table.{Table}

@@ -1,25 +1,21 @@
 -- The rows of a table that shows a query say the query's program.
-use Rattle.std.proofs.Common.{◌≡◌, ℕ, zero, suc, ◌+◌, ◌-◌, ◌*◌, ◌<◌, ◌≤◌, Bool, false, List, [], ◌∷◌, ◌++◌, length, take, drop, Some, None, Option, sym, refl, ap, ◌∙◌, subst, add-zero, add_assoc, add-one, arith, length-append}
+use Rattle.std.proofs.Common.{◌≡◌, ℕ, zero, suc, ◌+◌, ◌*◌, ◌<◌, ◌≤◌, Bool, false, List, [], ◌∷◌, ◌++◌, length, Some, None, Option, sym, refl, ap, ◌∙◌, subst, arith}
 use native.Mathlib.Decide.{dec_lt}
 use Rattle.grammar.specs.Syntax.{Path, first, more, Filter, plain, holds, Pred, some, own, in_path, in_filter, in_pred}
 use Rattle.grammar.specs.Syntax as syntax
 use Rattle.grammar.specs.Machine.{outer, inner}
 use Rattle.query.specs.declared.table.NodeTest.{NodeTest}
 use Rattle.query.specs.declared.table.NodeTest.TheVariants.{Element, Name, Text, Node}
-use Rattle.query.specs.declared.table.Step.{Step}
-use Rattle.query.specs.declared.table.Shape.{Shape}
-use Rattle.query.specs.declared.table.Shape.TheVariants as shape
 use Rattle.query.specs.declared.table.Predicate.{Predicate}
 use Rattle.query.specs.declared.table.Table.{Table}
-use Rattle.query.specs.Shown.{axis_of, step_at, predicate_at, preds_path, preds_filter, below, ShowsTest, ShowsHere, ShowsPath, ShowsFilter, ShowsPred, Shows}
+use Rattle.query.specs.Shown.{axis_of, step_at, predicate_at, preds_path, preds_filter, below, ShowsTest, ShowsHere, ShowsPath, ShowsFilter, ShowsPred}
 use Rattle.automata.specs.Program.{Formula, Rule, Program, and, or, not}
 use Rattle.automata.specs.Program as program
 use Rattle.selection.specs.Selects.{Store}
-use Rattle.selection.specs.Limits.{Limited}
 use Rattle.selection.specs.Translate.{passing, beginning, looking, both, Piece, Part, missing, part, onto, of_path, of_filter, of_pred, steps_onto, steps_of, brackets, matching, deciding, sending, going, begin, keeping, rule, translate}
 use Rattle.selection.specs.Translate as translated
-use Rattle.selection.proofs.Limits.{pred_length, filter_length}
-use Rattle.translation.specs.Table.{state_of, asks_at, negated, says, shape_says, Reach, ShapeReach, said, Reaching, test_says, bracket_says, next_says, step_says, inside_says, outside_says, GoodTest, GoodBracket, GoodNext, GoodStep, GoodInside, insides, outsides, axis_before, goes_on, state_rules, sends, program_of, Good}
+use Rattle.selection.proofs.Limits.{pred_length}
+use Rattle.translation.specs.Table.{state_of, asks_at, negated, says, shape_says, Reach, ShapeReach, said, Reaching, test_says, bracket_says, next_says, step_says, inside_says, GoodTest, GoodBracket, GoodNext, GoodStep, GoodInside, insides, outsides, axis_before, state_rules, sends, program_of}
 use Rattle.translation.specs.Claims.{SaysProgram}
 use Rattle.translation.proofs.Reaching.{negated_more}
 

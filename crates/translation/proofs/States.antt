@@ -1,9 +1,9 @@
 -- The bytes of states, one more at a time.
-use Rattle.std.proofs.Common.{◌≡◌, ℕ, zero, suc, ◌+◌, ◌-◌, ◌<◌, ◌≤◌, List, [], ◌∷◌, ◌++◌, length, sym, refl, ap, ◌∙◌, subst, add-one, arith, length-append}
+use Rattle.std.proofs.Common.{◌≡◌, ℕ, zero, suc, ◌+◌, ◌-◌, ◌<◌, ◌≤◌, List, [], ◌∷◌, ◌++◌, length, sym, refl, ap, ◌∙◌, subst, arith, length-append}
 use native.Mathlib.Decide.{dec_lt}
 use Rattle.std.proofs.lemmas.List.{append_assoc}
 use Rattle.grammar.specs.Syntax.{Axis, self, child, descendant, following_sibling}
-use Rattle.grammar.specs.Machine.{inner, outer}
+use Rattle.grammar.specs.Machine.{outer}
 use Rattle.query.specs.declared.table.Table.{Table}
 use Rattle.query.specs.Shown.{axis_of, step_at}
 use Rattle.automata.specs.Program.{Formula, Rule, Program}

@@ -1,5 +1,5 @@
 -- Translations are short, and there are some.
-use Rattle.std.proofs.Common.{◌≡◌, ℕ, ◌≤◌, List, length, sym, refl, ap, ◌∙◌, subst, arith}
+use Rattle.std.proofs.Common.{ℕ, ◌≤◌, List, length, refl, ap, arith}
 use Rattle.grammar.specs.Syntax.{Path}
 use Rattle.commands.specs.Encoded.{encoded}
 use Rattle.selection.specs.Selects.{Store}

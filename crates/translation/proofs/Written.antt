@@ -1,5 +1,5 @@
 -- Writes from the end on.
-use Rattle.std.proofs.Common.{◌≡◌, ℕ, suc, ◌+◌, ◌-◌, ◌<◌, ◌≤◌, List, [], ◌∷◌, ◌++◌, reverse, length, take, drop, set, sym, refl, ap, ◌∙◌, subst, add-zero, add-one, arith, length-append, drop-drop, take-suc-set, drop-set-lt}
+use Rattle.std.proofs.Common.{◌≡◌, ℕ, ◌+◌, ◌-◌, ◌<◌, ◌≤◌, List, [], ◌∷◌, ◌++◌, reverse, length, take, drop, set, sym, refl, ap, ◌∙◌, subst, arith, length-append, drop-drop, drop-set-lt}
 use Rattle.std.proofs.lemmas.List.{append_assoc, reverse-append, take_more_set}
 use Rattle.translation.specs.Written.{text_of, Adds, Remains}
 

@@ -1,5 +1,5 @@
 -- The program that the rows of a table say, row by row. `bs` is the text of the query.
-use Rattle.std.specs.Prelude.{◌≡◌, ℕ, zero, suc, ◌+◌, ◌-◌, ◌<◌, ◌≤◌, List, [], ◌∷◌, ◌++◌, length, take, drop, Some, None, Option}
+use Rattle.std.specs.Prelude.{ℕ, zero, suc, ◌+◌, ◌-◌, ◌<◌, ◌≤◌, List, [], ◌∷◌, ◌++◌, length, take, drop, Some, None, Option}
 use Rattle.grammar.specs.Syntax.{self}
 use Rattle.grammar.specs.Syntax as syntax
 use Rattle.grammar.specs.Machine.{outer, inner}

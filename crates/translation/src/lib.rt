@@ -1,4 +1,6 @@
 // Translations of queries: what they are, and the program that the rows of a query say.
+#![tactic(auto)]
+
 ghost use Rattle.std.specs.Prelude.{ℕ, ◌≤◌, List, length};
 ghost use Rattle.grammar.specs.Syntax.{Path};
 ghost use Rattle.selection.specs.Selects.{Store};

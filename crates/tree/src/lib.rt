@@ -1,4 +1,6 @@
 // A labelled tree: its rows and the five questions that every kind of tree answers.
+#![tactic(auto)]
+
 ghost use Rattle.std.specs.Prelude.{◌≡◌, List};
 ghost use Rattle.rows.specs.Rows.{Row, Lawful, count_of, label_of};
 ghost use Rattle.rows.specs.Answers.{first_of, next_of, size_of};

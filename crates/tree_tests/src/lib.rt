@@ -1,3 +1,5 @@
+#![tactic(auto)]
+
 // Tests of row trees and excerpts.
 #[cfg(test)]
 mod tests {

@@ -1,4 +1,4 @@
-use Rattle.std.proofs.Common.{◌≡◌, ℕ, Bool, List, length, Ok, Err, Result, sym, refl, ap, ◌∙◌}
+use Rattle.std.proofs.Common.{length, Result, sym, ap, ◌∙◌}
 use Rattle.shape.specs.Bits.{bits_of}
 use Rattle.growth.specs.declared.fault.Fault.{Fault}
 use Rattle.growth.specs.Steps.{Fed, begun}

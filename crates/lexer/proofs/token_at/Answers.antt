@@ -1,8 +1,7 @@
-use Rattle.std.proofs.Common.{◌+◌, get_or, drop, sym, refl, ap, ◌∙◌, add-zero, arith, rules}
-use Rattle.std.proofs.lemmas.Bool.Decides.{nat_tests}
-use Rattle.grammar.specs.declared.tokens.Symbol.TheVariants.{Slash, DoubleSlash, LeftBracket, RightBracket, LeftParen, RightParen, Star, DoubleColon}
-use Rattle.lexer.specs.Lexing.{read, refused, front, placed}
-use Rattle.grammar.specs.Tokens.{symbol, found, strange, front_of, name_of}
+use Rattle.std.proofs.Common.{◌+◌, get_or, drop, refl, ap, ◌∙◌, arith, rules}
+use Rattle.grammar.specs.declared.tokens.Symbol.TheVariants.{Slash, DoubleSlash, DoubleColon}
+use Rattle.lexer.specs.Lexing.{front, placed}
+use Rattle.grammar.specs.Tokens.{symbol, found, strange, name_of}
 use Rattle.lexer.proofs.Runs.{split_at, past_end, at_byte, name_front, none_front, chosen_yes, chosen_no}
 use Rattle.lexer.proofs.token_at.Goals as goal
 

@@ -1,6 +1,6 @@
-use Rattle.std.proofs.Common.{◌≡◌, true, length, take, Ok, Err, sym, ap, ◌∙◌, subst}
+use Rattle.std.proofs.Common.{◌≡◌, true, Err, sym, ap, ◌∙◌, subst}
 use Rattle.std.proofs.lemmas.Result.{err_from_is_err_and}
-use Rattle.grammar.specs.Machine.{outcome, accepted}
+use Rattle.grammar.specs.Machine.{accepted}
 use Rattle.query.specs.Reads.{accepts_text, path_in}
 use Rattle.query.specs.Shown.{shown_by}
 use Rattle.query.proofs.Shown.{of_shows, of_reads, path_is}

@@ -1,4 +1,4 @@
-use Rattle.std.proofs.Common.{◌≡◌, ◌≤◌, length, Option, sym, ap, subst, arith}
+use Rattle.std.proofs.Common.{◌≤◌, length, Option, sym, ap, subst, arith}
 use Rattle.rows.specs.Rows.{count_of}
 use Rattle.selector.specs.Steps.{state_of}
 use Rattle.select.specs.declared.fault.Fault.{Fault}

@@ -1,4 +1,4 @@
-use Rattle.std.proofs.Common.{◌≡◌, ℕ, ◌≤◌, List, length, Err, Option, Result, sym, ap, ◌∙◌, subst₂, arith}
+use Rattle.std.proofs.Common.{ℕ, ◌≤◌, length, Err, Option, Result, sym, ap, ◌∙◌, subst₂, arith}
 use Rattle.rows.specs.Rows.{count_of}
 use Rattle.commands.specs.Checked.{accepted}
 use Rattle.program.specs.declared.fault.Fault.{Fault as BrokenFault}
@@ -7,10 +7,10 @@ use Rattle.selector.specs.declared.fault.Fault.{Fault}
 use Rattle.selector.specs.declared.fault.Fault.TheVariants.{Program, SmallWork}
 use Rattle.selector.specs.declared.phase.Phase.TheVariants.{Settled}
 use Rattle.selector.specs.Calls.{rise, fall}
-use Rattle.selector.specs.Steps.{State, state_of, outcome, granted_or, state_after, words_after}
+use Rattle.selector.specs.Steps.{state_of, outcome, granted_or, state_after, words_after}
 use Rattle.selector.proofs.Loading.{ok_so}
 use Rattle.history.proofs.Stages.{mk}
-use Rattle.settle.specs.Settling.{settle_refusal, swept, Ready}
+use Rattle.settle.specs.Settling.{swept, Ready}
 use Rattle.settle.proofs.Swept.{all_swept, asks_none, asks_program, asks_work, bad_so, some_none, ready}
 use Rattle.settle.proofs.settle.Goals as goal
 

@@ -1,4 +1,4 @@
-use Rattle.std.proofs.Common.{◌≡◌, ◌≤◌, ◌++◌, length, get_or, take, drop, set, sym, ap, ◌∙◌, arith, length-take}
+use Rattle.std.proofs.Common.{◌≡◌, ◌++◌, length, get_or, take, drop, set, sym, ap, ◌∙◌, arith, length-take}
 use Rattle.grammar.specs.Spelling.{spell}
 use Rattle.query.specs.Queries.{query_of}
 use Rattle.spelling.proofs.Slices.{copy_one}

@@ -1,4 +1,4 @@
-use Rattle.std.proofs.Common.{◌≡◌, sym, ap, ◌∙◌, arith}
+use Rattle.std.proofs.Common.{sym, arith}
 use Rattle.translate.specs.Outcome.{text_in}
 use Rattle.translation.proofs.Written.{adds_none, adds_as, adds_more}
 use Rattle.translation.proofs.Codes.{states_none}

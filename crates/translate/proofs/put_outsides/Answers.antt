@@ -1,4 +1,4 @@
-use Rattle.std.proofs.Common.{◌≡◌, ◌+◌, ◌-◌, sym, ap, ◌∙◌, arith}
+use Rattle.std.proofs.Common.{◌≡◌, ◌-◌, sym, ap, ◌∙◌, arith}
 use Rattle.translation.specs.Table.{outsides}
 use Rattle.translation.specs.Written.{states_code}
 use Rattle.translate.specs.Outcome.{text_in}

@@ -1,4 +1,4 @@
-use Rattle.std.proofs.Common.{◌≡◌, sym, arith}
+use Rattle.std.proofs.Common.{sym, arith}
 use Rattle.translate.specs.Outcome.{text_in}
 use Rattle.translation.proofs.Written.{adds_as, adds_more}
 use Rattle.translation.proofs.States.{program_code}

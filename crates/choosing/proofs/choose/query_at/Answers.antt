@@ -1,4 +1,4 @@
-use Rattle.std.proofs.Common.{◌≡◌, ℕ, ◌-◌, List, length, take, drop, subst, arith, length-drop}
+use Rattle.std.proofs.Common.{ℕ, ◌-◌, List, length, drop, subst, arith, length-drop}
 use Rattle.std.proofs.lemmas.List.{take_all}
 use Rattle.reader.specs.Answers.{Answers}
 use Rattle.choosing.proofs.choose.query_at.Goals as goal

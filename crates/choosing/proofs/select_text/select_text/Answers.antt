@@ -1,4 +1,4 @@
-use Rattle.std.proofs.Common.{◌≡◌, length, string_bytes, Option, subst, arith}
+use Rattle.std.proofs.Common.{length, string_bytes, Option, subst, arith}
 use Rattle.rows.specs.Rows.{count_of}
 use Rattle.query.specs.Queries.{query_of}
 use Rattle.tally.specs.Reaches.{reach}

@@ -1,4 +1,4 @@
-use Rattle.std.proofs.Common.{ap, ◌∙◌, arith}
+use Rattle.std.proofs.Common.{arith}
 use Rattle.rows.proofs.Excerpts.{excerpt_count}
 use Rattle.excerpt.proofs.ExcerptTree.count.Goals as goal
 

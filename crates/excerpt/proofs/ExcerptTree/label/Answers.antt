@@ -1,4 +1,4 @@
-use Rattle.std.proofs.Common.{ap, ◌∙◌, arith, rules}
+use Rattle.std.proofs.Common.{◌∙◌, arith, rules}
 use Rattle.rows.proofs.Excerpts.{excerpt_label, excerpt_label_past, excerpt_fits}
 use Rattle.excerpt.proofs.ExcerptTree.label.Goals as goal
 

@@ -1,4 +1,4 @@
-use Rattle.std.proofs.Common.{ap, ◌∙◌, arith, rules}
+use Rattle.std.proofs.Common.{◌∙◌, arith, rules}
 use Rattle.rows.proofs.Excerpts.{excerpt_size, excerpt_size_past, excerpt_root_size, excerpt_fits}
 use Rattle.excerpt.proofs.ExcerptTree.size.Goals as goal
 

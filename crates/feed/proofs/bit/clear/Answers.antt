@@ -1,4 +1,4 @@
-use Rattle.std.proofs.Common.{◌≡◌, ℕ, Bool, false, List, set, sym, ap, ◌∙◌, add-one, arith}
+use Rattle.std.proofs.Common.{Bool, false, List, set, sym, ap, ◌∙◌, add-one, arith}
 use Rattle.shape.specs.Bits.{bits_of}
 use Rattle.shape.proofs.Bytes.{bits_length}
 use Rattle.growth.specs.Steps.{cleared}

@@ -1,4 +1,4 @@
-use Rattle.std.proofs.Common.{◌≡◌, ℕ, suc, ◌+◌, ◌<◌, List, ◌++◌, length, get_or, take, drop, set, replicate, sym, ap, ◌∙◌, append-nil, add-one, arith, length-take}
+use Rattle.std.proofs.Common.{◌≡◌, ℕ, ◌<◌, List, ◌++◌, length, get_or, take, drop, set, replicate, sym, ap, ◌∙◌, append-nil, add-one, arith, length-take}
 use Rattle.std.proofs.lemmas.List.{get_or-take, take-take}
 use Rattle.names.proofs.Lists.{fill_more}
 use Rattle.feedfile.proofs.decode.slot_of.Goals as goal

@@ -1,9 +1,8 @@
-use Rattle.std.proofs.Common.{◌≡◌, ℕ, List, Option, sym, ap, ◌∙◌, ap₂}
+use Rattle.std.proofs.Common.{ℕ, List, sym, ap, ◌∙◌, ap₂}
 use Rattle.std.proofs.lemmas.Bool.{cond-false, le-ltb}
 use Rattle.growth.specs.declared.command.Command.TheVariants.{Name}
-use Rattle.feedfile.specs.declared.command.FileCommand.{FileCommand}
 use Rattle.feedfile.specs.declared.command.FileCommand.TheVariants.{Feed}
-use Rattle.feedfile.specs.Bytes.{with_rest, slot}
+use Rattle.feedfile.specs.Bytes.{with_rest}
 use Rattle.feedfile.proofs.Takes.{found, all_from}
 use Rattle.feedfile.proofs.decode.take_slot.Goals as goal
 

@@ -1,7 +1,6 @@
-use Rattle.std.proofs.Common.{◌≡◌, ℕ, ◌<◌, length, Some, sym, ap, ◌∙◌, arith}
+use Rattle.std.proofs.Common.{length, Some, sym, ap, ◌∙◌, arith}
 use Rattle.feed.specs.Fed.{fed}
 use Rattle.feedfile.specs.declared.command.FileCommand.{FileCommand}
-use Rattle.feedfile.specs.declared.command.FileCommand.TheVariants.{Feed}
 use Rattle.feedfile.proofs.Takes.{shorter}
 use Rattle.feedfile.proofs.Readings.{unknown, ended, refuse, go_on}
 use Rattle.feedfile.proofs.read.grow.Goals as goal

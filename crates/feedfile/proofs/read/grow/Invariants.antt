@@ -1,4 +1,4 @@
-use Rattle.std.proofs.Common.{◌≡◌, ℕ, ◌≤◌, length}
+use Rattle.std.proofs.Common.{◌≡◌, ◌≤◌, length}
 use Rattle.feed.specs.Fed.{fed}
 use Rattle.feedfile.specs.Reading.{reading}
 use Rattle.feedfile.proofs.read.grow.Given as goal

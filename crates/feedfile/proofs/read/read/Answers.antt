@@ -2,7 +2,7 @@ use Rattle.std.proofs.Common.{◌≡◌, ℕ, ◌+◌, ◌*◌, List, length, Ok
 use Rattle.shape.specs.Bits.{bits_of}
 use Rattle.scan.specs.Directory.{bytes}
 use Rattle.scan.specs.Filling.{filled}
-use Rattle.growth.specs.Steps.{cleared, seal_check}
+use Rattle.growth.specs.Steps.{cleared}
 use Rattle.feed.specs.Fed.{fed}
 use Rattle.feed.specs.declared.types.Growing.{Growing}
 use Rattle.feedfile.specs.declared.command.FileFault.{FileFault}

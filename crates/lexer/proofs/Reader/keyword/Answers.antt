@@ -1,4 +1,4 @@
-use Rattle.std.proofs.Common.{◌≡◌, ◌∷◌, sym, ap, ◌∙◌, subst, arith}
+use Rattle.std.proofs.Common.{◌∷◌, sym, ap, ◌∙◌, subst, arith}
 use Rattle.grammar.proofs.Words.{same_true}
 use Rattle.grammar.specs.Tokens.{token, word, tokens_at}
 use Rattle.lexer.specs.Readers.{SeesToken}

@@ -1,7 +1,7 @@
-use Rattle.std.proofs.Common.{◌≡◌, ℕ, ◌+◌, ◌*◌, ◌<◌, ◌≤◌, length, get_or, drop, pos, ◌+ℤ◌, ◌≤ℤ◌, sym, refl, ap, ◌∙◌, arith, rules}
+use Rattle.std.proofs.Common.{◌≡◌, ℕ, ◌+◌, ◌*◌, get_or, drop, pos, ◌+ℤ◌, ◌≤ℤ◌, sym, refl, ap, ◌∙◌, arith, rules}
 use Rattle.std.proofs.lemmas.Int.{ints}
 use Rattle.excess.specs.Excess.{total_of, least_of}
-use Rattle.shape.specs.Bits.{bits_of, close, openings_of}
+use Rattle.shape.specs.Bits.{bits_of, close}
 use Rattle.shape.proofs.Steps.{close_byte, byte_least, byte_openings, byte_few}
 use Rattle.parens.proofs.search.close_in_bytes.Goals as goal
 use Rattle.parens.proofs.search.close_in_bytes.Goals.{then-here-least-lt0+in_default, else-here-least-lt0}

@@ -1,13 +1,11 @@
 -- Each command makes the next step of `formulas_keep`.
-use Rattle.std.proofs.Common.{◌≡◌, ℕ, ◌+◌, ◌≤◌, Bool, true, false, cond, not, ◌&&◌, eqb, List, [], ◌∷◌, length, Some, None, Option, sym, refl, ap, ◌∙◌, arith}
-use Rattle.std.proofs.lemmas.Bool.{cond-true, cond-false, eq-eqb, ne_eqb}
+use Rattle.std.proofs.Common.{◌&&◌, eqb, List, Option, sym, refl, ap, ◌∙◌, arith}
+use Rattle.std.proofs.lemmas.Bool.{eq-eqb, ne_eqb}
 use Rattle.commands.specs.declared.command.Command.{Command}
-use Rattle.commands.specs.declared.counts.Counts.{Counts}
 use Rattle.commands.specs.declared.counts.Formulas.{Formulas}
-use Rattle.commands.specs.declared.counts.Rules.{Rules}
 use Rattle.commands.specs.Commands.{commands_of}
-use Rattle.commands.proofs.Spells.{taken_less, taken_width, commands_none, commands_more, next_command}
-use Rattle.commands.specs.Checked.{thence, opens, formula_step, formulas_keep}
+use Rattle.commands.proofs.Spells.{taken_less, commands_none, next_command}
+use Rattle.commands.specs.Checked.{thence, formulas_keep}
 use Rattle.commands.proofs.Steps.{formula_up, formulas_next, formulas_stop}
 use Rattle.program.proofs.check.formulas_keep.Goals as goal
 

@@ -1,4 +1,4 @@
-use Rattle.std.proofs.Common.{◌≡◌, ◌+◌, ◌≤◌, false, length}
+use Rattle.std.proofs.Common.{◌≡◌, ◌+◌, ◌≤◌, length}
 use Rattle.commands.specs.Commands.{commands_of}
 use Rattle.commands.specs.Checked.{formulas_keep}
 use Rattle.program.proofs.check.formulas_keep.Given as goal

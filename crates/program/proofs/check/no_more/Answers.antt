@@ -1,4 +1,4 @@
-use Rattle.std.proofs.Common.{◌≡◌, sym, ap}
+use Rattle.std.proofs.Common.{sym, ap}
 use Rattle.commands.specs.Checked.{is_empty}
 use Rattle.commands.proofs.Spells.{commands_more, commands_none}
 use Rattle.program.proofs.check.no_more.Goals as goal

@@ -1,13 +1,10 @@
 -- Each command makes the next step of `rules_keep`.
-use Rattle.std.proofs.Common.{◌≡◌, ℕ, ◌+◌, ◌≤◌, Bool, true, false, cond, not, ◌&&◌, eqb, List, [], ◌∷◌, length, Some, None, Option, sym, refl, ap, ◌∙◌, arith}
-use Rattle.std.proofs.lemmas.Bool.{cond-true, cond-false, eq-eqb, ne_eqb}
+use Rattle.std.proofs.Common.{List, Option, sym, refl, ap, ◌∙◌, arith}
 use Rattle.commands.specs.declared.command.Command.{Command}
-use Rattle.commands.specs.declared.counts.Counts.{Counts}
-use Rattle.commands.specs.declared.counts.Formulas.{Formulas}
 use Rattle.commands.specs.declared.counts.Rules.{Rules}
 use Rattle.commands.specs.Commands.{commands_of}
-use Rattle.commands.proofs.Spells.{taken_less, taken_width, commands_none, commands_more, next_command}
-use Rattle.commands.specs.Checked.{thence, is_end, is_empty, rule_step, rules_keep}
+use Rattle.commands.proofs.Spells.{taken_less, commands_none, next_command}
+use Rattle.commands.specs.Checked.{thence, rules_keep}
 use Rattle.commands.proofs.Steps.{rule_up, rules_next, rules_stop}
 use Rattle.program.proofs.check.rules_keep.Goals as goal
 

@@ -1,15 +1,13 @@
 -- Each command is counted once.
-use Rattle.std.proofs.Common.{◌≡◌, ℕ, ◌+◌, ◌≤◌, Bool, true, false, cond, not, ◌&&◌, eqb, List, [], ◌∷◌, length, Some, None, Option, sym, refl, ap, ◌∙◌, arith}
+use Rattle.std.proofs.Common.{◌≡◌, ◌+◌, ◌≤◌, eqb, length, Some, None, Option, sym, ap, ◌∙◌, arith}
 use Rattle.std.proofs.lemmas.Bool.{cond-true, cond-false, eq-eqb, ne_eqb}
 use Rattle.commands.specs.declared.command.Command.{Command}
 use Rattle.commands.specs.declared.command.Command.TheVariants.{Value, And, Or, Not, Define, When, Make, Done, End}
 use Rattle.commands.specs.declared.counts.Counts.{Counts}
-use Rattle.commands.specs.declared.counts.Formulas.{Formulas}
-use Rattle.commands.specs.declared.counts.Rules.{Rules}
 use Rattle.commands.specs.Commands.{commands_of}
-use Rattle.commands.proofs.Spells.{taken_less, taken_width, commands_none, commands_more, next_command}
-use Rattle.commands.specs.Decoded.{width, widths}
-use Rattle.commands.specs.Checked.{defined, closed, summed, counts, surveyed}
+use Rattle.commands.proofs.Spells.{taken_less, taken_width, commands_none, commands_more}
+use Rattle.commands.specs.Decoded.{widths}
+use Rattle.commands.specs.Checked.{defined, closed, summed, counts}
 use Rattle.program.proofs.check.survey.Goals as goal
 
 pub loop-command-smaller : goal.loop-command-smaller

@@ -1,14 +1,13 @@
 -- Each command makes the next step of `decide`.
-use Rattle.std.proofs.Common.{◌≡◌, ℕ, ◌+◌, ◌≤◌, Bool, List, [], ◌∷◌, length, Some, None, sym, refl, ap, ◌∙◌, arith}
+use Rattle.std.proofs.Common.{◌≡◌, ℕ, ◌+◌, List, ◌∷◌, sym, refl, ap, ◌∙◌, arith}
 use Rattle.words.specs.Bit.{put_bit}
 use Rattle.commands.specs.declared.node.Node.{Node}
 use Rattle.commands.specs.declared.command.Command.{Command}
 use Rattle.commands.specs.declared.command.Command.TheVariants.{Value, And, Or, Not, Define, When, Make, Done, End}
-use Rattle.commands.specs.Bytes.{Taken, taken}
 use Rattle.commands.specs.Commands.{commands_of}
 use Rattle.commands.specs.Stack.{push}
 use Rattle.commands.specs.Deciding.{decide}
-use Rattle.commands.proofs.Spells.{taken_less, commands_none, next_command, found}
+use Rattle.commands.proofs.Spells.{taken_less, commands_none, next_command}
 use Rattle.program.proofs.deciding.decided.Goals as goal
 
 -- a command that defines no state ends the deciding part

@@ -1,14 +1,13 @@
 -- The commands are passed over one by one.
-use Rattle.std.proofs.Common.{◌≡◌, ℕ, ◌+◌, ◌-◌, ◌<◌, ◌≤◌, Bool, true, false, cond, List, [], ◌∷◌, length, drop, sym, refl, ap, ◌∙◌, arith, length-drop, rules}
+use Rattle.std.proofs.Common.{◌≡◌, ℕ, ◌+◌, ◌-◌, List, ◌∷◌, length, drop, sym, refl, ap, ◌∙◌, arith, length-drop}
 use Rattle.std.proofs.lemmas.Bool.{cond-true, cond-false}
-use Rattle.commands.specs.declared.command.Command.{Command}
 use Rattle.commands.specs.Bytes.{taken}
 use Rattle.commands.specs.Begin.{lead, rules_at}
 use Rattle.commands.specs.Decoded.{width}
 use Rattle.commands.specs.Commands.{commands_of}
 use Rattle.commands.specs.Rules.{deciding, after_deciding}
 use Rattle.commands.proofs.Spells.{taken_width, commands_none, next_command}
-use Rattle.commands.proofs.Ends.{After, after}
+use Rattle.commands.proofs.Ends.{after}
 use Rattle.program.proofs.rules.rules_start.Goals as goal
 
 pub overflow_sub-at : goal.overflow_sub-at

@@ -1,4 +1,4 @@
-use Rattle.std.proofs.Common.{◌≡◌, sym, refl, ap, ◌∙◌, subst, arith}
+use Rattle.std.proofs.Common.{sym, ap, ◌∙◌, subst, arith}
 use Rattle.grammar.specs.Syntax.{name}
 use Rattle.grammar.specs.Machine.{run, tested}
 use Rattle.grammar.proofs.Glance.{name_test}

@@ -1,7 +1,7 @@
 use Rattle.std.proofs.Common.{◌+◌, ◌≤◌, sym, ap, ◌∙◌, subst, arith}
 use Rattle.std.proofs.lemmas.Bool.{leb-true, le-leb}
 use Rattle.stored.specs.Stored.{at}
-use Rattle.stored.specs.Fits.{Fits, parent_of}
+use Rattle.stored.specs.Fits.{Fits}
 use Rattle.stored.proofs.Passed.{fits_found, same_parent}
 use Rattle.row_tree.proofs.Decided.{refuted}
 use Rattle.row_tree.proofs.check.fits.Goals as goal

@@ -2,7 +2,6 @@ use Rattle.std.proofs.Common.{◌≡◌, ℕ, true, false, ◌&&◌, eqb, length
 use Rattle.std.proofs.lemmas.Bool.{and_parts, and_from, eqb-true, eq-eqb}
 use Rattle.std.proofs.lemmas.Bool.Decides.{not_from_Decides}
 use Rattle.stored.specs.Stored.{at, OfTree}
-use Rattle.stored.specs.Fits.{Fitting}
 use Rattle.stored.proofs.Passed.{pass_decides}
 use Rattle.row_tree.proofs.Decided.{refuted, confirmed}
 use Rattle.row_tree.proofs.check.of_tree.Goals as goal

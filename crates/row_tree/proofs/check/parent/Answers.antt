@@ -1,5 +1,4 @@
-use Rattle.std.proofs.Common.{◌<◌, arith}
-use Rattle.stored.specs.Fits.{Fits}
+use Rattle.std.proofs.Common.{arith}
 use Rattle.stored.proofs.Passed.{climb, not_root}
 use Rattle.row_tree.proofs.check.parent.Goals as goal
 

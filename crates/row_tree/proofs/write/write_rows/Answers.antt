@@ -3,7 +3,7 @@ use Rattle.std.proofs.lemmas.List.{take_all}
 use Rattle.std.proofs.lemmas.Bool.{cond-false, le-ltb}
 use Rattle.rows.specs.Rows.{count_of}
 use Rattle.stored.specs.declared.row.StoredRow.{StoredRow}
-use Rattle.stored.specs.Stored.{blank, at, stored_of, stored_at, rows_of, OfTree}
+use Rattle.stored.specs.Stored.{blank, stored_of, rows_of, OfTree}
 use Rattle.stored.proofs.Kept.{stored_length, stored_read}
 use Rattle.row_tree.proofs.Written.{fill_more, fill_read, reloads}
 use Rattle.row_tree.proofs.write.write_rows.Goals as goal

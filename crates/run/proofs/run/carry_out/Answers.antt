@@ -1,4 +1,4 @@
-use Rattle.std.proofs.Common.{◌≡◌, ℕ, eqb, Ok, Err, Result, sym, ap, ◌∙◌, subst, arith, rules}
+use Rattle.std.proofs.Common.{◌≡◌, ℕ, eqb, Ok, Err, Result, sym, ap, ◌∙◌, subst, arith}
 use Rattle.selector.specs.declared.fault.Fault.{Fault}
 use Rattle.selector.specs.Steps.{state_of, state_after, words_after}
 use Rattle.history.specs.History.{reply}

@@ -1,7 +1,7 @@
-use Rattle.std.proofs.Common.{◌≡◌, ℕ, ◌+◌, ◌*◌, ◌<◌, ◌≤◌, Bool, true, false, ◌&&◌, eqb, List, length, get_or, drop, sym, refl, ap, ◌∙◌, arith, rules}
+use Rattle.std.proofs.Common.{◌≡◌, ℕ, ◌+◌, ◌<◌, ◌≤◌, Bool, ◌&&◌, eqb, List, length, drop, sym, ap, ◌∙◌, arith}
 use Rattle.std.proofs.lemmas.Bool.{and_left, eq-eqb, ne_eqb}
 use Rattle.shape.specs.Bits.{bits_of}
-use Rattle.shape.specs.Walk.{walk, walk_all, reach_of}
+use Rattle.shape.specs.Walk.{walk, walk_all}
 use Rattle.shape.proofs.Bytes.{bits_length}
 use Rattle.shape.proofs.Lawful.{walk_on, walk_refused, walk_unlabelled, walk_closed, walk_ended, walk_same, refused_bits, refused_labels, refused_closing, refused_root}
 use Rattle.scan.proofs.check.shape_holds.Goals as goal

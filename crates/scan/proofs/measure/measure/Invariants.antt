@@ -1,4 +1,4 @@
-use Rattle.std.proofs.Common.{◌≡◌, ◌-◌, ◌*◌, pos, ◌+ℤ◌, neg_ℤ, ◌≤ℤ◌}
+use Rattle.std.proofs.Common.{◌≡◌, ◌-◌, pos, ◌+ℤ◌, neg_ℤ, ◌≤ℤ◌}
 use Rattle.excess.specs.Excess.{total_bits}
 use Rattle.shape.specs.Bits.{bits_of}
 use Rattle.shape.specs.Stretch.{stretch, low}

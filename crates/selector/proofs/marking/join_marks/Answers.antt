@@ -1,4 +1,4 @@
-use Rattle.std.proofs.Common.{◌≡◌, ℕ, ◌+◌, ◌-◌, Bool, List, Option, sym, ap, ◌∙◌, subst, arith, rules}
+use Rattle.std.proofs.Common.{◌≡◌, ℕ, ◌+◌, ◌-◌, Bool, List, Option, sym, ap, ◌∙◌, subst, arith}
 use Rattle.memo.specs.declared.Known.{Known}
 use Rattle.memo.specs.Places.{Recalls}
 use Rattle.memo.proofs.Recalls.{recalls_none}

@@ -1,11 +1,10 @@
 -- Each command makes the next step of `marking`.
-use Rattle.std.proofs.Common.{◌≡◌, ℕ, ◌+◌, ◌≤◌, Bool, true, false, cond, ◌&&◌, ◌||◌, List, [], ◌∷◌, length, get_or, sym, refl, ap, ◌∙◌, arith}
-use Rattle.std.proofs.lemmas.Bool.{cond-true, cond-false}
+use Rattle.std.proofs.Common.{◌≡◌, ℕ, Bool, false, ◌||◌, List, ◌∷◌, sym, refl, ap, ◌∙◌, arith}
 use Rattle.commands.specs.declared.command.Command.{Command}
 use Rattle.commands.specs.declared.command.Command.TheVariants.{Value, And, Or, Not, Define, When, Make, Done, End}
 use Rattle.commands.specs.Commands.{commands_of}
 use Rattle.commands.proofs.Spells.{taken_less, commands_none, next_command}
-use Rattle.sweep.specs.Falling.{acting, is_mark, marking}
+use Rattle.sweep.specs.Falling.{marking}
 use Rattle.selector.proofs.marking.marked.Goals as goal
 
 -- another command ends the rules

@@ -1,4 +1,4 @@
-use Rattle.std.proofs.Common.{◌≡◌, ℕ, Bool, List, Option, sym, subst}
+use Rattle.std.proofs.Common.{ℕ, Bool, List, Option, sym, subst}
 use Rattle.memo.specs.declared.Known.{Known}
 use Rattle.memo.specs.Places.{Recalls}
 use Rattle.memo.specs.Spread.{spread}

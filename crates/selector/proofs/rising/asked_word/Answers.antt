@@ -1,4 +1,4 @@
-use Rattle.std.proofs.Common.{◌≡◌, sym, ap, ◌∙◌, arith}
+use Rattle.std.proofs.Common.{sym, ap, ◌∙◌, arith}
 use lib.ListN.{get_or-eq_default}
 use Rattle.sweep.specs.Rising.{word_of}
 use Rattle.selector.proofs.rising.asked_word.Goals as goal

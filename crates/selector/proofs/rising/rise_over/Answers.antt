@@ -1,4 +1,4 @@
-use Rattle.std.proofs.Common.{◌≡◌, ℕ, suc, ◌+◌, ◌-◌, ◌≤◌, eqb, List, set, sym, ap, ◌∙◌, subst, arith}
+use Rattle.std.proofs.Common.{◌≡◌, ℕ, suc, ◌-◌, eqb, List, set, ap, ◌∙◌, arith}
 use Rattle.words.specs.Bit.{put_bit}
 use Rattle.commands.specs.declared.node.Node.{Node}
 use Rattle.commands.specs.declared.node.Asked.{Asked}

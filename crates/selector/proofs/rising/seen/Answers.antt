@@ -1,5 +1,4 @@
-use Rattle.std.proofs.Common.{◌≡◌, ℕ, ◌^◌, ◌<◌, List, get_or, Some, None, Option, arith}
-use Rattle.commands.specs.Asked.{Fits}
+use Rattle.std.proofs.Common.{ℕ, ◌^◌, ◌<◌, List, get_or, Some, None, Option, arith}
 use Rattle.rows.specs.Answers.{first_of, next_of}
 use Rattle.sweep.specs.Rising.{word_of}
 use Rattle.selector.proofs.rising.seen.Goals as goal

@@ -1,4 +1,4 @@
-use Rattle.std.proofs.Common.{◌≡◌, ◌+◌, ◌≤◌, length, sym, refl, ap, ◌∙◌, subst, arith}
+use Rattle.std.proofs.Common.{◌≤◌, length, sym, ap, ◌∙◌, subst, arith}
 use Rattle.query.specs.Shown.{predicate_at}
 use Rattle.query.specs.Queries.{text_of}
 use Rattle.spelling.specs.Spellings.{where_in, place_of}

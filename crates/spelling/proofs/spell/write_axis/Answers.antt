@@ -1,6 +1,5 @@
-use Rattle.std.proofs.Common.{◌≡◌, Bool, true, false, List, sym, refl, subst}
-use Rattle.grammar.specs.Tokens.{Token}
-use Rattle.grammar.specs.Syntax.{Axis, self, following_sibling, axis_word}
+use Rattle.std.proofs.Common.{Bool, true, false, sym, subst}
+use Rattle.grammar.specs.Syntax.{self, following_sibling, axis_word}
 use Rattle.query.specs.Shown.{axis_of}
 use Rattle.spelling.specs.declared.writer.Writer.{Writer}
 use Rattle.spelling.specs.Writing.{Emits}

@@ -1,8 +1,7 @@
-use Rattle.std.proofs.Common.{◌≡◌, length, take, drop, sym, ap, ◌∙◌, subst, arith}
+use Rattle.std.proofs.Common.{sym, ap, ◌∙◌, subst, arith}
 use Rattle.grammar.specs.Syntax.{name}
 use Rattle.grammar.specs.Spelling.{test_t}
 use Rattle.grammar.proofs.Reading.{sound}
-use Rattle.query.specs.declared.table.NodeTest.TheVariants.{Name}
 use Rattle.query.specs.Shown.{ShowsTest}
 use Rattle.query.specs.Reads.{path_in}
 use Rattle.query.specs.Queries.{text_of}

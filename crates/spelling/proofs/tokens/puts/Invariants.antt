@@ -1,4 +1,4 @@
-use Rattle.std.proofs.Common.{length, take}
+use Rattle.std.proofs.Common.{take}
 use Rattle.spelling.specs.Writing.{Puts}
 use Rattle.spelling.proofs.tokens.puts.Given as goal
 

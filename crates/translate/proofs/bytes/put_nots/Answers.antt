@@ -1,4 +1,4 @@
-use Rattle.std.proofs.Common.{◌≡◌, sym, refl, ap, ◌∙◌, add-one, arith}
+use Rattle.std.proofs.Common.{sym, ap, add-one, arith}
 use Rattle.translation.specs.Written.{nots}
 use Rattle.translation.proofs.Written.{adds_none, adds_more, adds_as}
 use Rattle.translate.proofs.bytes.put_nots.Goals as goal

@@ -1,4 +1,4 @@
-use Rattle.std.proofs.Common.{◌≡◌, suc, ◌+◌, ◌-◌, sym, refl, ap, ◌∙◌, subst, arith}
+use Rattle.std.proofs.Common.{◌≡◌, ◌+◌, ◌-◌, sym, ap, ◌∙◌, arith}
 use Rattle.query.specs.Shown.{axis_of, step_at}
 use Rattle.grammar.specs.Machine.{inner}
 use Rattle.translation.specs.Table.{state_of}

@@ -1,4 +1,4 @@
-use Rattle.std.proofs.Common.{◌≡◌, sym, ap}
+use Rattle.std.proofs.Common.{sym, ap}
 use Rattle.query.specs.Shown.{axis_of}
 use Rattle.translation.specs.Written.{keeping_code}
 use Rattle.translation.proofs.Written.{adds_as, adds_more}

@@ -1,4 +1,4 @@
-use Rattle.std.proofs.Common.{◌≡◌, ◌-◌, sym, arith}
+use Rattle.std.proofs.Common.{◌-◌, sym, arith}
 use Rattle.query.specs.Shown.{axis_of}
 use Rattle.translation.proofs.Written.{adds_as, adds_more}
 use Rattle.translation.proofs.States.{state_code, state_long}

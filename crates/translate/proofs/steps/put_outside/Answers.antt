@@ -1,4 +1,4 @@
-use Rattle.std.proofs.Common.{◌≡◌, [], ◌∷◌, ◌++◌, length, sym, ap, subst, arith}
+use Rattle.std.proofs.Common.{[], ◌∷◌, ◌++◌, length, sym, ap, subst, arith}
 use Rattle.translation.specs.Table.{step_says, GoodStep}
 use Rattle.translation.specs.Written.{code}
 use Rattle.translate.specs.Outcome.{text_in}

@@ -1,4 +1,4 @@
-use Rattle.std.proofs.Common.{◌≡◌, length, sym, ap, ◌∙◌, arith, length-append}
+use Rattle.std.proofs.Common.{length, sym, ap, arith, length-append}
 use Rattle.translation.specs.Table.{test_says, bracket_says}
 use Rattle.translation.specs.Written.{code, both_code}
 use Rattle.translate.specs.Outcome.{text_in}

@@ -1,4 +1,4 @@
-use Rattle.std.proofs.Common.{◌≡◌, ◌/◌, ◌%◌, [], ◌∷◌, length, take, drop, sym, refl, ap, ◌∙◌, arith, length-take}
+use Rattle.std.proofs.Common.{◌≡◌, ◌/◌, ◌%◌, [], ◌∷◌, length, take, drop, ap, ◌∙◌, arith, length-take}
 use Rattle.names.specs.Store.{label_of}
 use Rattle.translate.specs.Outcome.{text_in}
 use Rattle.translation.proofs.Written.{adds_as}

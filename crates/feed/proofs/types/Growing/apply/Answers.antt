@@ -1,5 +1,5 @@
-use Rattle.std.proofs.Common.{◌≡◌, sym, ap, ◌∙◌}
-use Rattle.growth.specs.Steps.{Fed, after}
+use Rattle.std.proofs.Common.{sym, ap, ◌∙◌}
+use Rattle.growth.specs.Steps.{after}
 use Rattle.growth.specs.Commands.{step_check, stepped, store_after}
 use Rattle.growth.specs.declared.command.Command.{Command}
 use Rattle.feed.specs.Fed.{fed}

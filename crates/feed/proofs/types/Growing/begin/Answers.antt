@@ -1,4 +1,4 @@
-use Rattle.std.proofs.Common.{length, sym, arith}
+use Rattle.std.proofs.Common.{sym, arith}
 use Rattle.shape.specs.Bits.{bits_of}
 use Rattle.shape.proofs.Bytes.{bits_length}
 use Rattle.growth.proofs.Room.{started}

@@ -1,6 +1,5 @@
-use Rattle.std.proofs.Common.{◌≡◌, ℕ, ◌+◌, ◌*◌, ◌<◌, ◌≤◌, List, sym, refl, ap, ◌∙◌, arith, rules}
+use Rattle.std.proofs.Common.{arith}
 use Rattle.std.proofs.lemmas.Bool.Decides.{nat_tests}
-use Rattle.shape.specs.Bits.{bits_of}
 use Rattle.shape.proofs.Bytes.{bits_length}
 use Rattle.feed.proofs.types.Growing.may_seal.Goals as goal
 

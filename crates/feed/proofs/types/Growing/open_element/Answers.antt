@@ -1,9 +1,6 @@
-use Rattle.std.proofs.Common.{◌≡◌, ℕ, ◌+◌, ◌*◌, ◌<◌, ◌≤◌, Bool, true, false, List, Ok, Err, Result, sym, refl, ap, ◌∙◌, arith, rules}
-use Rattle.std.proofs.lemmas.Bool.Decides.{nat_tests}
-use Rattle.shape.specs.Bits.{bits_of}
+use Rattle.std.proofs.Common.{sym, arith}
 use Rattle.shape.proofs.Bytes.{bits_length}
 use Rattle.feed.specs.Fed.{fed}
-use Rattle.growth.specs.Steps.{Fed, room, shut_check, shut, begin_check, begun}
 use Rattle.growth.proofs.Room.{roomy}
 use Rattle.feed.proofs.types.Growing.open_element.Goals as goal
 

@@ -1,5 +1,4 @@
 use Rattle.std.proofs.Common.{[], length, sym, arith}
-use Rattle.shape.specs.Bits.{bits_of}
 use Rattle.shape.proofs.Bytes.{bits_length}
 use Rattle.feed.specs.Fed.{fed}
 use Rattle.growth.proofs.Room.{seals}

@@ -1,5 +1,5 @@
 use Rattle.std.proofs.Common.{rules}
-use Rattle.parens.proofs.Facts.{size_at, size_past, opening_below, closing_below, bytes_few}
+use Rattle.parens.proofs.Facts.{size_at, size_past, closing_below, bytes_few}
 use Rattle.parens.proofs.paren_tree.ParenTree.size_of.Goals as goal
 
 pub returns-then-v-self : goal.returns-then-v-self

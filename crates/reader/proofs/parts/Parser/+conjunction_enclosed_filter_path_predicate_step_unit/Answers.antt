@@ -1,24 +1,21 @@
-use Rattle.std.proofs.Common.{◌≡◌, ℕ, ◌+◌, ◌-◌, ◌<◌, Bool, true, false, ◌∷◌, Some, None, Ok, Err, Result, sym, refl, ap, ◌∙◌, subst, arith}
+use Rattle.std.proofs.Common.{◌≡◌, ℕ, ◌∷◌, Ok, Err, Result, sym, ap, ◌∙◌, subst, arith}
 use Rattle.std.proofs.lemmas.Result.{err_from_is_err_and}
-use Rattle.grammar.specs.declared.tokens.Symbol.TheVariants as symbols
 use Rattle.grammar.specs.Tokens.{token, word}
 use Rattle.grammar.specs.Syntax.{Pred, and, or, and_word, or_word}
-use Rattle.grammar.specs.Machine.{Where, inner, Before, start}
+use Rattle.grammar.specs.Machine.{start}
 use Rattle.grammar.specs.Descent as descent
-use Rattle.grammar.specs.Glances.{next_word, next_is, next_not}
 use Rattle.grammar.proofs.Descent.{one_unit, and_unit, one_conj, or_conj}
 use Rattle.query.specs.declared.fault.Fault.{Fault}
 use Rattle.query.specs.declared.table.Table.{Table}
 use Rattle.query.specs.declared.table.Shape.TheVariants as shape
-use Rattle.query.specs.Shown.{below}
 use Rattle.lexer.specs.declared.Reader.{Reader}
-use Rattle.lexer.specs.Readers.{tokens_of, end_of, Keywords, Accepts, Negates}
+use Rattle.lexer.specs.Readers.{tokens_of, end_of}
 use Rattle.reader.specs.declared.parts.Parser.{Parser}
 use Rattle.reader.specs.Rows.{where_of, Pushes}
 use Rattle.reader.specs.Heads.{outer_left, inner_left, Onward, HeadTells}
-use Rattle.reader.specs.Parsing.{Fit, PredRead, PathTells, StepTells, FilterTells, EnclosedTells, PredTells, ConjTells, UnitTells, told, failed, Walked, slash_of}
+use Rattle.reader.specs.Parsing.{Fit, PredRead, PathTells, EnclosedTells, PredTells, ConjTells, UnitTells, told, failed, Walked, slash_of}
 use Rattle.reader.proofs.Keeping.{on_moved, on_same, same_end, on_trans}
-use Rattle.reader.proofs.Telling.{with, holding, fit_with, pred_fit, pred_from, enclosed_err, enclosed_ok, enclosed_none, filter_some, filter_none, not_unit, path_told, join_fit, join_gained, join_row, join_is, join_left, join_right, join_told}
+use Rattle.reader.proofs.Telling.{with, holding, fit_with, pred_fit, enclosed_err, enclosed_ok, enclosed_none, filter_some, filter_none, not_unit, path_told, join_fit, join_gained, join_row, join_is, join_left, join_right, join_told}
 use Rattle.reader.proofs.Walking.{walk_start, step_read, walk_done, walk_on, walk_err, step_fit}
 use Rattle.reader.proofs.parts.Parser.+conjunction_enclosed_filter_path_predicate_step_unit.Goals as goal
 

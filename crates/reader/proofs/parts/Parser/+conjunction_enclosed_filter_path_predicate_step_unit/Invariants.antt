@@ -1,4 +1,4 @@
-use Rattle.std.proofs.Common.{◌≡◌, ℕ, ◌+◌, ◌-◌, ◌*◌, Bool, false, length}
+use Rattle.std.proofs.Common.{◌≡◌, ◌+◌, ◌-◌, ◌*◌, false, length}
 use Rattle.grammar.specs.Syntax.{Pred, and_word}
 use Rattle.grammar.specs.Glances.{next_word}
 use Rattle.grammar.specs.Machine.{Before}

@@ -1,4 +1,4 @@
-use Rattle.std.proofs.Common.{◌-◌, length, arith, rules}
+use Rattle.std.proofs.Common.{◌-◌, length, rules}
 use Rattle.rows.specs.Rows.{count_of as count}
 use Rattle.selector.specs.Calls.{tally}
 use Rattle.selector.specs.Steps.{state_of, refusal, told_nodes}

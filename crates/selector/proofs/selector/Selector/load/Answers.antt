@@ -1,5 +1,5 @@
 -- A program that keeps the rules fits.
-use Rattle.std.proofs.Common.{◌≡◌, ℕ, ◌≤◌, Bool, true, leb, List, length, take, sym, ap, ◌∙◌, arith, rules}
+use Rattle.std.proofs.Common.{◌≡◌, ℕ, ◌≤◌, Bool, true, leb, List, length, take, sym, ap, ◌∙◌, arith}
 use Rattle.std.proofs.lemmas.Bool.{leb-true, and_parts}
 use Rattle.commands.specs.Begin.{rules_at}
 use Rattle.std.proofs.lemmas.List.{take_at}
@@ -8,7 +8,7 @@ use Rattle.commands.specs.Checked.{accepted, all_keep, surveyed, thence}
 use Rattle.commands.specs.Commands.{commands_of}
 use Rattle.selector.specs.Codes.{bad_program}
 use Rattle.selector.specs.declared.phase.Phase.TheVariants.{Rising}
-use Rattle.selector.specs.Steps.{State, state_of, outcome, unless_so, granted_or}
+use Rattle.selector.specs.Steps.{state_of, outcome, unless_so, granted_or}
 use Rattle.selector.proofs.Loading.{ok_so, err_so, err_same}
 use Rattle.selector.proofs.selector.Selector.load.Goals as goal
 

@@ -1,4 +1,4 @@
-use Rattle.std.proofs.Common.{◌≡◌, [], sym, refl, ap, arith}
+use Rattle.std.proofs.Common.{[], sym, refl, ap, arith}
 use Rattle.commands.specs.Begin.{lead}
 use Rattle.commands.proofs.Spells.{commands_none}
 use Rattle.selector.proofs.selector.Selector.new.Goals as goal

@@ -1,4 +1,4 @@
-use Rattle.std.proofs.Common.{arith, rules}
+use Rattle.std.proofs.Common.{arith}
 use Rattle.tally.specs.Values.{same_capped}
 use Rattle.tally.proofs.count.CountTally.joined.Goals as goal
 

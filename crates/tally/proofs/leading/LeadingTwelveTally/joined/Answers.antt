@@ -1,4 +1,4 @@
-use Rattle.std.proofs.Common.{◌≡◌, ℕ, ◌+◌, ◌<◌, ◌≤◌, Bool, ◌||◌, ltb, List, [], ◌++◌, length, get_or, take, sym, ap, ◌∙◌, subst, append-nil, arith, length-set, length-take, take_all, rules}
+use Rattle.std.proofs.Common.{◌≡◌, ℕ, ◌+◌, ◌<◌, ◌≤◌, Bool, ◌||◌, ltb, ◌++◌, length, get_or, take, sym, ap, ◌∙◌, append-nil, arith, length-set, length-take, take_all, rules}
 use Rattle.tally.proofs.Steps.{step_fits, step_full, flag_fits, flag_full, flag_none, both}
 use Rattle.tally.proofs.leading.LeadingTwelveTally.joined.Goals as goal
 use Rattle.tally.proofs.leading.LeadingTwelveTally.joined.Goals.{then-len-lt12, else-len-lt12}

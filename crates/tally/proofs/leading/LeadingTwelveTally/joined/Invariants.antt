@@ -1,4 +1,4 @@
-use Rattle.std.proofs.Common.{◌≡◌, ◌+◌, ◌≤◌, min, ◌||◌, ltb, ◌++◌, length, take}
+use Rattle.std.proofs.Common.{◌≡◌, ◌+◌, min, ◌||◌, ltb, ◌++◌, length, take}
 use Rattle.tally.proofs.leading.LeadingTwelveTally.joined.Given as goal
 
 abbrev pub invariant-loop-i : goal.invariant-loop-i
