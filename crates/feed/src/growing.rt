@@ -226,10 +226,10 @@ impl Growing {
         count
     }
 
-    // A growing feed makes no tree: seal it first. No caller can meet what this requires.
+    // A growing feed makes no tree: seal it first. What this requires is true of no feed, since only its nodes are open.
     pub fn into_tree(self)
-        requires seal_first { ⊥ }
+        requires seal_first { self.nodes < self.due }
     {
-        unreachable()
+        let _ = self.abandon();
     }
 }

@@ -11,12 +11,10 @@ use scan::block::Block;
 use tree::fault::Fault;
 
 impl Sealed {
-    // A sealed feed takes no element: begin another feed. No caller can meet what this requires.
+    // A sealed feed takes no element: begin another feed. What this requires is true of no feed, since each has its root.
     pub fn open_element(&self)
-        requires begin_another_feed { ⊥ }
-    {
-        unreachable()
-    }
+        requires begin_another_feed { self.now.nodes ≡ 0 }
+    {}
 
     // The number of names in the name store.
     pub fn names(&self) -> usize
