@@ -3,7 +3,7 @@ ghost use Rattle.std.specs.Prelude.{◌≡◌, ◌-◌, ◌<◌, ◌≤◌, fals
 ghost use Rattle.memo.specs.Places.{Recalls};
 ghost use Rattle.rows.specs.Answers.{first_of, next_of};
 ghost use Rattle.commands.specs.Commands.{commands_of};
-ghost use Rattle.sweep.specs.Falling.{acting, place_at, fallen};
+ghost use Rattle.sweep.specs.Falling.{acting, sent, place_at, fallen};
 ghost use Rattle.sweep.specs.Sending.{nothing_sent, with_move, sending as sending_of, entered_all, delivered};
 ghost use Rattle.selector.specs.Recalled.{Sends};
 
@@ -135,6 +135,17 @@ fn deliver<T: Tree>(tree: &T, v: usize, sent: Sending, work: &mut [u64])
     enter_next(tree, v, sent.on, work);
 }
 
+// Makes the moves of the states that enter node v, from the first state up.
+fn send<T: Tree>(rules: &[u8], tree: &T, memo: &mut Memo<u64, Sending>, v: usize, work: &mut [u64])
+    requires within { v < length work.old }
+    requires memo { Recalls (Sends (commands_of rules.now)) memo.old.places }
+    ensures words { work.new ≡ sent (place_at (T.rows tree.now) v) (commands_of rules.now) 0 false work.old }
+    ensures memo { Recalls (Sends (commands_of rules.now)) memo.new.places }
+{
+    let sent = recalled_sending(rules, memo, work[v]);
+    deliver(tree, v, sent, work);
+}
+
 // Falls over the nodes from lo to hi minus 1, the first first.
 pub(crate) fn fall_over<T: Tree>(tree: &T, rules: &[u8], lo: usize, hi: usize, work: &mut [u64])
     requires { (lo ≤ hi) × (hi ≤ length work.old) }
@@ -143,8 +154,7 @@ pub(crate) fn fall_over<T: Tree>(tree: &T, rules: &[u8], lo: usize, hi: usize, w
     let mut memo = Memo::new();
     for v in lo..hi {
         if is_entered(work[v]) {
-            let sent = recalled_sending(rules, &mut memo, work[v]);
-            deliver(tree, v, sent, work);
+            send(rules, tree, &mut memo, v, work);
         }
     }
 }

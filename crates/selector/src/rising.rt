@@ -70,7 +70,25 @@ fn recalled_word(program: &[u8], memo: &mut Memo<Seen, u64>, node: Node) -> u64
     word
 }
 
-// Writes the words of the nodes from lo to hi minus 1, the last first; the root also enters the sending state 0.
+// the word of node v; the root also enters the sending state 0
+fn risen_word<T: Tree>(
+    tree: &T,
+    program: &[u8],
+    asked: Asked,
+    memo: &mut Memo<Seen, u64>,
+    work: &[u64],
+    v: usize,
+) -> u64
+    requires asks { asked ≡ asked_of (commands_of program.now) nothing }
+    requires memo { Recalls (Decided (commands_of program.now)) memo.old.places }
+    ensures word { result ≡ word_at (T.rows tree.now) (commands_of program.now) work.now v }
+    ensures memo { Recalls (Decided (commands_of program.now)) memo.new.places }
+{
+    let word = recalled_word(program, memo, seen(tree, work, v, asked));
+    put_bit(word, 40, v == 0)
+}
+
+// Writes the words of the nodes from lo to hi minus 1, the last first.
 pub(crate) fn rise_over<T: Tree>(tree: &T, program: &[u8], lo: usize, hi: usize, work: &mut [u64])
     requires { (lo ≤ hi) × (hi ≤ length work.old) }
     ensures { work.new ≡ risen (T.rows tree.now) (commands_of program.now) lo (hi - lo) work.old }
@@ -78,7 +96,7 @@ pub(crate) fn rise_over<T: Tree>(tree: &T, program: &[u8], lo: usize, hi: usize,
     let asked = asked(program);
     let mut memo = Memo::new();
     for v in (lo..hi).rev() {
-        let word = recalled_word(program, &mut memo, seen(tree, work, v, asked));
-        work[v] = put_bit(word, 40, v == 0);
+        let word = risen_word(tree, program, asked, &mut memo, work, v);
+        work[v] = word;
     }
 }

@@ -1,13 +1,11 @@
-use Rattle.std.proofs.Common.{◌≡◌, ℕ, suc, ◌+◌, ◌-◌, ◌<◌, false, List, length, get_or, sym, ap, ◌∙◌, subst, arith}
+use Rattle.std.proofs.Common.{◌≡◌, ℕ, suc, ◌+◌, ◌-◌, ◌<◌, false, List, get_or, sym, ap, ◌∙◌, subst, arith}
 use Rattle.std.proofs.lemmas.Bool.{leb-false}
 use Rattle.memo.specs.declared.Memo.{Memo}
 use Rattle.memo.specs.Places.{Recalls}
 use Rattle.commands.specs.Commands.{commands_of}
 use Rattle.sweep.specs.declared.sending.Sending.{Sending}
 use Rattle.sweep.specs.Falling.{sent, place_at, fallen}
-use Rattle.sweep.specs.Sending.{delivered}
 use Rattle.sweep.proofs.Idle.{idle_sent}
-use Rattle.sweep.proofs.Sends.{sent_whole, first_apart, next_apart}
 use Rattle.selector.specs.Recalled.{Sends}
 use Rattle.selector.proofs.falling.fall_over.Goals as goal
 use Rattle.selector.proofs.falling.fall_over.Goals.{then-is_entered, else-is_entered}
@@ -21,12 +19,10 @@ loop-v-preserved g c =
     let ws = c.loop-v.work in
     let up : v + 1 ≡ suc v = omega arith in
     let k : hi - v ≡ suc (hi - (v + 1)) = omega arith in
-    let inside : v < length ws = omega arith in
     let known : Memo ℕ Sending → Type 0 = λ m. Recalls (Sends cs) m.places in
     let on : c.if-is_entered.work ≡ sent (place_at rows v) cs 0 false ws = elim c.if-is_entered.branch [
       | then-is_entered w ↦
-          w.work-is ∙ w.deliver.ensures ∙ ap (λ (s : Sending). delivered (place_at rows v) s ws) w.recalled_sending-sent.ensures.sent
-          ∙ sym (sent_whole (place_at rows v) ws inside (first_apart rows v) (next_apart rows v) cs)
+          w.work-is ∙ w.send.ensures.words
       | else-is_entered w ↦
           let low : get_or ws v 0 < 1099511627776 = leb-false 1099511627776 (get_or ws v 0) (sym c.is_entered.ensures ∙ w.if-is_entered.false) in
           w.work-is ∙ sym (idle_sent (place_at rows v) cs 0 ws low)
@@ -36,7 +32,7 @@ loop-v-preserved g c =
           ∙ sym (ap (λ (n : ℕ). fallen rows cs v n ws) k)
           ∙ c.loop-v.invariant.0,
       elim c.if-is_entered.branch [
-        | then-is_entered w ↦ subst known (sym w.memo-is) w.recalled_sending-sent.ensures.memo
+        | then-is_entered w ↦ subst known (sym w.memo-is) w.send.ensures.memo
         | else-is_entered w ↦ subst known (sym w.memo-is) c.loop-v.invariant.1
       ],
     )
