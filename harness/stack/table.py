@@ -56,7 +56,7 @@ def build(kit, out, names, group, number):
     kept.write_text("".join(f"{name},noinline\n" for name in names if call_of(name) in group))
     compile_module(kit, out, ["-mllvm", f"-forceattrs-csv-path={kept}"], made)
     link = [kit / "bin/rattle-link", "--target", "x86_64-unknown-linux-gnu", "--toolchain", kit / "toolchain"]
-    subprocess.run([*link, "-o", program, made, kit / "lib/librattle_c.a"], check=True, capture_output=True)
+    subprocess.run([*link, "-o", program, made, kit / "c/libos_c.a", kit / "c/liblibc_c.a"], check=True, capture_output=True)
     at = {address: name for address, name in functions(program) if call_of(name) in group}
     symbols.write_text("".join(f"{address} {name}\n" for address, name in at.items()))
     return program, symbols
