@@ -4,9 +4,10 @@
 usage: python3 tools/respell.py        at the top of the repository, once, after the kit's own script for older repositories
 
 What is defined in specs/ and proofs/, or imported by `as`, under a name with a dash, or in camel case, gets it in snake
-case; a type, in camel case with a capital. Names that Rattle makes (of goals, invariants and measures), functions of src/, strings, and
-comments outside backquotes stay. A new name that stands somewhere already is printed, as `falls together`, and done
-all the same where TOGETHER lists it; else the old one stays.
+case; a type, in camel case with a capital. That is done in crates/, and between backquotes in docs/ and README.md. Names
+that Rattle makes (of goals, invariants and measures), functions of src/, strings, and lines of comment outside backquotes
+stay. A new name that stands somewhere already is taken where TOGETHER lists it; else it is printed, as `falls together`,
+and the old one stays.
 """
 
 import collections
@@ -32,6 +33,8 @@ OTHERWISE = {
     "preds-filter": "preds_filter_lem",
     "preds-parts": "preds_parts_lem",
     "preds-path": "preds_path_lem",
+    # the kit's script gave this name of a definition the ending of a lemma
+    "width_of_lem": "width_of",
 }
 # Old names that stay: a dash joins the names of two functions, of which one is the library's.
 STAY = {"append-nil", "bit-and", "bit-or"}
@@ -50,6 +53,10 @@ def read(path):
         return f.read()
 
 
+def indent(line):
+    return len(line) - len(line.lstrip())
+
+
 def signatures(text):
     """Each name that is defined, with the kind (data, record or none) and the text of its signature."""
     lines = text.split("\n")
@@ -59,7 +66,7 @@ def signatures(text):
             continue
         whole = m.group(3) or ""
         for later in lines[i + 1 :]:
-            if not later.startswith((" ", "\t")) or SIGNATURE.match(later):
+            if indent(later) <= indent(line) or SIGNATURE.match(later):
                 break
             whole += " " + later.strip()
         yield m.group(2), m.group(1), whole
@@ -101,8 +108,8 @@ def renames(root):
             new[name] = OTHERWISE[name]
             continue
         if name[0].isupper():
-            if "-" in name and types == {True}:
-                new[name] = camel(name)
+            if "-" in name:
+                new[name] = camel(name) if types == {True} else name.replace("-", "_")
         elif "-" in name or re.search(r"[A-Z]", name):
             new[name] = snake(name)
     return {a: b for a, b in new.items() if a != b}

@@ -2,7 +2,7 @@
 #![tactic(auto)]
 
 ghost use Rattle.std.specs.Prelude.{◌≡◌};
-ghost use Rattle.commands.specs.Decoded.{width as width_of_lem};
+ghost use Rattle.commands.specs.Decoded.{width as width_of};
 ghost use Rattle.commands.specs.Denotes.{ReadBack, OneProgram, Reading};
 
 pub mod command;
@@ -15,7 +15,7 @@ impl Command {
     // How many bytes the command takes. Its contract also has what is proved of the bytes of programs: what is written is
     // read back, bytes are of one program at most, and they are of the program that they are read as.
     pub fn width(self) -> usize
-        ensures exact { result ≡ width_of_lem self }
+        ensures exact { result ≡ width_of self }
         ensures back { ReadBack }
         ensures one { OneProgram }
         ensures reading { Reading }

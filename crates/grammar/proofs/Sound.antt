@@ -260,19 +260,19 @@ module _ (T : List Placed) (L : ℕ) where
   fine (united k o n p) t a l us h = fine_united k o n p t a l us h
   fine (either k o n d) t a l us h = fine_either k o n d t a l us h
 
-  abbrev Right-end : Last → Type 0
-  Right-end (whole q) = IsPath L T q []
-  Right-end early = Unit {0}
-  Right-end (behind d) = Unit {0}
+  abbrev RightEnd : Last → Type 0
+  RightEnd (whole q) = IsPath L T q []
+  RightEnd early = Unit {0}
+  RightEnd (behind d) = Unit {0}
 
-  ended_fine : (c : Context) (p : Path) (l : ℕ) → At (stepped c p) l [] → Right-end (ended c p)
+  ended_fine : (c : Context) (p : Path) (l : ℕ) → At (stepped c p) l [] → RightEnd (ended c p)
   ended_fine (unit k o n) p l h = tt
   ended_fine top p l h = come h.1 h.2
     where
       come : {m : ℕ} {xs : List Placed} → AtCtx top m xs → IsPath m xs p [] → IsPath L T p []
       come at_top d = d
 
-  end_fine : (s : State) (l : ℕ) → At s l [] → Right-end (last s)
+  end_fine : (s : State) (l : ℕ) → At s l [] → RightEnd (last s)
   end_fine (begin c) l h = tt
   end_fine (due c b) l h = tt
   end_fine (test c b v s) l h = tt
@@ -288,7 +288,7 @@ module _ (T : List Placed) (L : ℕ) where
   Good (accepted q) = IsPath L T q []
   Good (refused k a) = Unit {0}
 
-  good_end : (x : Last) (e i : ℕ) → Right-end x → Good (at_end x e i)
+  good_end : (x : Last) (e i : ℕ) → RightEnd x → Good (at_end x e i)
   good_end (whole p) e i h = h
   good_end early e i h = tt
   good_end (behind d) e zero h = tt

@@ -6,7 +6,6 @@ ghost use Rattle.selector.specs.Calls.Call.{tally as tally_call};
 ghost use Rattle.selector.specs.Steps.{state_of, refusal, outcome, valued, told_nodes};
 ghost use Rattle.history.specs.Pick.{Pick, pick, pick_mark, pick_join};
 ghost use Rattle.history.specs.Cases.{either_value};
-ghost use Rattle.std.proofs.Common.{rules};
 
 use history::held::{Either, Only};
 use selector::fault::Fault;
@@ -55,11 +54,11 @@ impl<K: Tally + Drop> Kinds for Only<K> {
 
     ghost join = { λ _. K.Tally.join };
 
-    ghost assoc = { Prim.search rules };
+    ghost assoc = { λ _. K.Tally.assoc };
 
-    ghost left = { Prim.search rules };
+    ghost left = { λ _. K.Tally.left };
 
-    ghost right = { Prim.search rules };
+    ghost right = { λ _. K.Tally.right };
 
     fn tally<T: Tree>(
         _kind: u8,

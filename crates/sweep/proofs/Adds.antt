@@ -14,7 +14,7 @@ use Rattle.commands.specs.declared.command.Move.{Move}
 use Rattle.commands.specs.declared.command.Move.TheVariants.{Down, On, Stay, Mark}
 use Rattle.commands.specs.Decoded.{move}
 use Rattle.sweep.specs.Falling.{entered, made, place_at}
-use Rattle.sweep.proofs.Risen.{T-same}
+use Rattle.sweep.proofs.Risen.{T_same}
 
 bool_same : (a b : Bool) → T a ↔ T b → a ≡ b
 bool_same true true e = refl
@@ -81,10 +81,10 @@ enters n p R (Some x) ws few room a within one = record {
       λ t. subst T (sym (ap (λ (y : ℕ). bit y (40 + q)) (here w e) ∙ sym (ap (λ (y : ℕ). bit (with_state ws x p) (40 + y)) k) ∙ bit_set (get_or ws x 0) (40 + p) (omega arith))) tt,
     )
     high q w h (inl e) (inr m) =
-        let s = T-same (ap (λ (y : ℕ). bit y (40 + q)) (here w e) ∙ bit_kept (get_or ws x 0) (40 + p) (40 + q) (λ k. m (let z : 40 + p ≡ 40 + q = k in omega arith)) ∙ sym (ap (λ (y : ℕ). bit (get_or ws y 0) (40 + q)) e)) in
+        let s = T_same (ap (λ (y : ℕ). bit y (40 + q)) (here w e) ∙ bit_kept (get_or ws x 0) (40 + p) (40 + q) (λ k. m (let z : 40 + p ≡ 40 + q = k in omega arith)) ∙ sym (ap (λ (y : ℕ). bit (get_or ws y 0) (40 + q)) e)) in
         (λ t. inl (s.0 t), ⊎_elim s.1 (λ r. absurd (m r.0)))
     high q w h (inr m) d =
-        let s = T-same (ap (λ (y : ℕ). bit y (40 + q)) (get_or-set_other ws x w (with_state ws x p) 0 m)) in
+        let s = T_same (ap (λ (y : ℕ). bit y (40 + q)) (get_or-set_other ws x w (with_state ws x p) 0 m)) in
         (λ t. inl (s.0 t), ⊎_elim s.1 (λ r. absurd (m (one w x r.1 a))))
 
 module _ (rows : List Row) (v : ℕ) (h : v < count rows) where

@@ -15,7 +15,7 @@ use Rattle.commands.proofs.Grammar as reads
 use Rattle.sweep.specs.Falling.{made, acting, sent, place_at, fallen}
 use Rattle.commands.specs.Rules.{after_deciding}
 use Rattle.sweep.specs.Claims.{decisions, FallsRight}
-use Rattle.sweep.proofs.Risen.{T_and, T-same}
+use Rattle.sweep.proofs.Risen.{T_and, T_same}
 use Rattle.sweep.proofs.Adds.{Adds, adds_none, adds_then, adds_same, adds_kept, move_adds, leads_away}
 
 module _ (rows : List Row) (P : Program) (D : Decisions) (ok : Lawful rows) (proper : Proper P) where
@@ -76,7 +76,7 @@ module _ (rows : List Row) (P : Program) (D : Decisions) (ok : Lawful rows) (pro
         let few = proper.deciding_few in
         let both : T b' ↔ (T e × T (D p v)) =
         Iff.trans (T_and (bit (get_or ws v 0) (40 + j)) (bit (get_or ws v 0) p))
-        (let x = T-same is in let y = T-same (low p v (let k = pr.0.0 in omega arith) h) in
+        (let x = T_same is in let y = T_same (low p v (let k = pr.0.0 in omega arith) h) in
         (λ t. (x.0 t.0, y.0 t.1), λ t. (x.1 t.0, y.1 t.1))) in (
           s.0,
           s.1,

@@ -18,14 +18,14 @@ use Rattle.commands.proofs.Grammar as reads
 use Rattle.sweep.specs.Falling.{acting, fallen, is_mark, marking}
 use Rattle.commands.specs.Rules.{after_deciding}
 use Rattle.sweep.specs.Claims.{decisions, MarksRight}
-use Rattle.sweep.proofs.Risen.{T_and, T-or, T-same}
+use Rattle.sweep.proofs.Risen.{T_and, T_or, T_same}
 use Rattle.sweep.proofs.Fallen.{falls_right}
 
-T-mark : (m : Move) → T (is_mark m) ↔ (move m ≡ program.mark)
-T-mark (Down q) = (λ t. absurd t, λ e. let z : ◌≡◌ {A = ℕ} 0 1 = cc in absurd (omega arith))
-T-mark (On q) = (λ t. absurd t, λ e. let z : ◌≡◌ {A = ℕ} 0 1 = cc in absurd (omega arith))
-T-mark (Stay q) = (λ t. absurd t, λ e. let z : ◌≡◌ {A = ℕ} 0 1 = cc in absurd (omega arith))
-T-mark Mark = (λ t. refl, λ e. tt)
+T_mark : (m : Move) → T (is_mark m) ↔ (move m ≡ program.mark)
+T_mark (Down q) = (λ t. absurd t, λ e. let z : ◌≡◌ {A = ℕ} 0 1 = cc in absurd (omega arith))
+T_mark (On q) = (λ t. absurd t, λ e. let z : ◌≡◌ {A = ℕ} 0 1 = cc in absurd (omega arith))
+T_mark (Stay q) = (λ t. absurd t, λ e. let z : ◌≡◌ {A = ℕ} 0 1 = cc in absurd (omega arith))
+T_mark Mark = (λ t. refl, λ e. tt)
 
 module _ (x : ℕ) (v : ℕ) where
   -- the decisions of the word
@@ -33,15 +33,15 @@ module _ (x : ℕ) (v : ℕ) where
   Here p w = bit x p
 
   -- of the states from j on, one that has entered marks
-  abbrev Marks-in : List (List Rule) → ℕ → Type 0
-  Marks-in [] j = ⊥
-  Marks-in (rs ∷ ss) j = (T (bit x (40 + j)) × Makes rs Here v program.mark) ⊎ Marks-in ss (j + 1)
+  abbrev MarksIn : List (List Rule) → ℕ → Type 0
+  MarksIn [] j = ⊥
+  MarksIn (rs ∷ ss) j = (T (bit x (40 + j)) × Makes rs Here v program.mark) ⊎ MarksIn ss (j + 1)
 
-  abbrev Has-mark : List program.Move → Type 0
-  Has-mark ms = program.Some (λ m. m ≡ program.mark) ms
+  abbrev HasMark : List program.Move → Type 0
+  HasMark ms = program.Some (λ m. m ≡ program.mark) ms
 
   mutual
-    sends_mark : {cs : List Command} {ss : List (List Rule)} → Sends cs ss → (j : ℕ) (b : Bool) → T (marking x cs j b) ↔ Marks-in ss j
+    sends_mark : {cs : List Command} {ss : List (List Rule)} → Sends cs ss → (j : ℕ) (b : Bool) → T (marking x cs j b) ↔ MarksIn ss j
     sends_mark (reads.opened {p = p} d) j b =
         let ih = below_mark d j (acting x j p) in
         let both = T_and (bit x (40 + j)) (bit x p) in (
@@ -54,7 +54,7 @@ module _ (x : ℕ) (v : ℕ) where
     sends_mark reads.ended j b = (λ t. t, λ t. t)
 
     below_mark : {cs : List Command} {ms : List program.Move} {rs : List Rule} {ss : List (List Rule)} → Below cs ms rs ss → (j : ℕ) (b : Bool)
-        → T (marking x cs j b) ↔ ((T b × Has-mark ms) ⊎ ((T (bit x (40 + j)) × Makes rs Here v program.mark) ⊎ Marks-in ss (j + 1)))
+        → T (marking x cs j b) ↔ ((T b × HasMark ms) ⊎ ((T (bit x (40 + j)) × Makes rs Here v program.mark) ⊎ MarksIn ss (j + 1)))
     below_mark (reads.again {p = p} d) j b =
         let ih = below_mark d j (acting x j p) in
         let both = T_and (bit x (40 + j)) (bit x p) in (
@@ -63,9 +63,9 @@ module _ (x : ℕ) (v : ℕ) where
         )
     below_mark (reads.made {m = m} {cs = cs} d) j b =
         let ih = below_mark d j b in
-        let first = Iff.trans (T-or (b && is_mark m) (marking x cs j b)) (Iff.rfl) in
+        let first = Iff.trans (T_or (b && is_mark m) (marking x cs j b)) (Iff.rfl) in
         let hit = T_and b (is_mark m) in
-        let is = T-mark m in (
+        let is = T_mark m in (
           λ t. ⊎_elim (λ s. let z = hit.0 s in inl (z.0, inl (is.0 z.1))) (λ s. ⊎_elim (λ z. inl (z.0, inr z.1)) inr (ih.0 s)) (first.0 t),
           ⊎_elim (λ s. ⊎_elim (λ e. first.1 (inl (hit.1 (s.0, is.1 e)))) (λ r. first.1 (inr (ih.1 (inl (s.0, r))))) s.1) (λ s. first.1 (inr (ih.1 (inr s)))),
         )
@@ -74,8 +74,8 @@ module _ (x : ℕ) (v : ℕ) where
         (λ t. inr (inr (ih.0 t)), ⊎_elim (λ r. absurd r.1) (⊎_elim (λ r. absurd r.1) (λ r. ih.1 r)))
 
   -- by the number of the state
-  abbrev Marks-by : List (List Rule) → ℕ → Type 0
-  Marks-by ss j = (i : ℕ) × T (bit x (40 + (j + i))) × Makes (get_or ss i []) Here v program.mark
+  abbrev MarksBy : List (List Rule) → ℕ → Type 0
+  MarksBy ss j = (i : ℕ) × T (bit x (40 + (j + i))) × Makes (get_or ss i []) Here v program.mark
 
   bit_at : (k n : ℕ) → k ≡ n → T (bit x (40 + k)) → T (bit x (40 + n))
   bit_at k n e t = subst (λ (y : ℕ). T (bit x (40 + y))) e t
@@ -84,11 +84,11 @@ module _ (x : ℕ) (v : ℕ) where
   none_by j zero r = r
   none_by j (suc i) r = r
 
-  one_more : (rs : List Rule) (ss : List (List Rule)) (j : ℕ) → Marks-in ss (j + 1) ↔ Marks-by ss (j + 1) → (i : ℕ) → T (bit x (40 + (j + i))) → Makes (get_or (rs ∷ ss) i []) Here v program.mark → Marks-in (rs ∷ ss) j
+  one_more : (rs : List Rule) (ss : List (List Rule)) (j : ℕ) → MarksIn ss (j + 1) ↔ MarksBy ss (j + 1) → (i : ℕ) → T (bit x (40 + (j + i))) → Makes (get_or (rs ∷ ss) i []) Here v program.mark → MarksIn (rs ∷ ss) j
   one_more rs ss j ih zero t m = inl (bit_at (j + 0) j (omega arith) t, m)
   one_more rs ss j ih (suc i) t m = inr (ih.1 (i, bit_at (j + suc i) ((j + 1) + i) (omega arith) t, m))
 
-  marks_at : (ss : List (List Rule)) (j : ℕ) → Marks-in ss j ↔ Marks-by ss j
+  marks_at : (ss : List (List Rule)) (j : ℕ) → MarksIn ss j ↔ MarksBy ss j
   marks_at [] j = (λ t. absurd t, λ r. none_by j r.0 r.2)
   marks_at (rs ∷ ss) j =
       let ih = marks_at ss (j + 1) in (
@@ -102,7 +102,7 @@ makes_same : (d n j : ℕ) (rules : List Rule) (D E : Decisions) (v : ℕ) (m : 
 makes_same d n j [] D E v m pr e = (λ t. t, λ t. t)
 makes_same d n j (r ∷ rules) D E v m pr e =
     let ih = makes_same d n j rules D E v m pr.1 e in
-    let s = T-same (e r.when pr.0.0) in
+    let s = T_same (e r.when pr.0.0) in
     (⊎_elim (λ z. inl (s.0 z.0, z.1)) (λ z. inr (ih.0 z)), ⊎_elim (λ z. inl (s.1 z.0, z.1)) (λ z. inr (ih.1 z)))
 
 pub marks_right : MarksRight

@@ -29,22 +29,22 @@ so false t = absurd t
 pub is_so : (b : Bool) → b ≡ true → T b
 is_so b e = subst T (sym e) tt
 
-pub T-same : {a b : Bool} → a ≡ b → T a ↔ T b
-T-same e = (subst T e, subst T (sym e))
+pub T_same : {a b : Bool} → a ≡ b → T a ↔ T b
+T_same e = (subst T e, subst T (sym e))
 
-T-eqb : (a b : ℕ) → T (eqb a b) ↔ (a ≡ b)
-T-eqb a b = (λ t. eqb-true a b (so (eqb a b) t), λ e. is_so (eqb a b) (eq-eqb a b e))
+T_eqb : (a b : ℕ) → T (eqb a b) ↔ (a ≡ b)
+T_eqb a b = (λ t. eqb-true a b (so (eqb a b) t), λ e. is_so (eqb a b) (eq-eqb a b e))
 
-T-leb : (a b : ℕ) → T (leb a b) ↔ (a ≤ b)
-T-leb a b = (λ t. leb-true a b (so (leb a b) t), λ e. is_so (leb a b) (le-leb a b e))
+T_leb : (a b : ℕ) → T (leb a b) ↔ (a ≤ b)
+T_leb a b = (λ t. leb-true a b (so (leb a b) t), λ e. is_so (leb a b) (le-leb a b e))
 
 pub T_and : (a b : Bool) → T (a && b) ↔ (T a × T b)
 T_and true b = (λ t. (tt, t), λ p. p.1)
 T_and false b = (λ t. absurd t, λ p. p.0)
 
-pub T-or : (a b : Bool) → T (a || b) ↔ (T a ⊎ T b)
-T-or true b = (λ t. inl tt, λ p. tt)
-T-or false b = (inr, ⊎_elim (λ t. absurd t) (λ t. t))
+pub T_or : (a b : Bool) → T (a || b) ↔ (T a ⊎ T b)
+T_or true b = (λ t. inl tt, λ p. tt)
+T_or false b = (inr, ⊎_elim (λ t. absurd t) (λ t. t))
 
 T_not : (a : Bool) → T (not a) ↔ (¬ T a)
 T_not true = (λ t n. t, λ n. n tt)
@@ -61,14 +61,14 @@ module _ (rows : List Row) where
   asked ws q R (Some w) a one = (λ t. (w, a, t), λ r. subst (λ (x : ℕ). T (bit (get_or ws x 0) q)) (one r.0 w r.1 a) r.2)
 
   kind_true : (k : program.Kind) (v : ℕ) → T (kind_value k (label rows v)) ↔ OfKind rows k v
-  kind_true program.root v = T-eqb (label rows v) 0
-  kind_true program.text v = T-eqb (label rows v) 1
-  kind_true program.element v = T-leb 2 (label rows v)
+  kind_true program.root v = T_eqb (label rows v) 0
+  kind_true program.text v = T_eqb (label rows v) 1
+  kind_true program.element v = T_leb 2 (label rows v)
 
   module _ (ws : List ℕ) (v : ℕ) (h : v < count rows) where
     value_true : (f : Formula) → T (value_of f (node_at rows ws v) (get_or ws v 0)) ↔ TrueAt f (decisions ws) rows v
     value_true (program.kind k) = kind_true k v
-    value_true (program.label_is c) = T-eqb (label rows v) c
+    value_true (program.label_is c) = T_eqb (label rows v) c
     value_true program.true = (λ t. t, λ t. t)
     value_true (program.first q) = asked ws q (FirstChild rows v) (first_child rows v) (questions rows v h).0 (first_unique v)
     value_true (program.next q) = asked ws q (NextSibling rows v) (next_sibling rows v) (questions rows v h).1 (next_unique rows v)
@@ -80,7 +80,7 @@ module _ (rows : List Row) where
     value_true (program.or f g) =
         let a = value_true f in
         let b = value_true g in
-        Iff.trans (T-or _ _) (⊎_elim (λ t. inl (a.0 t)) (λ t. inr (b.0 t)), ⊎_elim (λ t. inl (a.1 t)) (λ t. inr (b.1 t)))
+        Iff.trans (T_or _ _) (⊎_elim (λ t. inl (a.0 t)) (λ t. inr (b.0 t)), ⊎_elim (λ t. inl (a.1 t)) (λ t. inr (b.1 t)))
     value_true (program.not f) = Iff.trans (T_not _) (Iff.not (value_true f))
 
   -- a question gives a later node, so a word depends on later words
@@ -148,10 +148,10 @@ module _ (rows : List Row) where
         ∙ word_values n (length P.deciding) d 0 0 0 (omega arith) refl (λ i l. bit_none i) (omega arith)
         (λ i l. let y : i ≡ 0 + i = omega arith in subst (λ (k : ℕ). Names (get_or P.deciding i program.true) (length P.deciding) k) y (proper.formulas i l)) p pl in
         let same = same_value f n (length P.deciding) p (raw v) (get_or ws v 0) (proper.formulas p pl) (λ q l. sym (low_bit v q vl (omega arith))) in
-        Iff.trans (T-same (low_bit v p vl (omega arith) ∙ values ∙ same)) (value_true ws v vl f)
+        Iff.trans (T_same (low_bit v p vl (omega arith) ∙ values ∙ same)) (value_true ws v vl f)
 
     clear : (i v : ℕ) → length P.deciding ≤ i → v < count rows → T (bit (get_or ws v 0) i) ↔ ((i ≡ 40) × (v ≡ 0))
-    clear i v l h = Iff.trans (T-same (ap (λ (x : ℕ). bit x i) (whole_word v h))) (which (cases_eq i 40))
+    clear i v l h = Iff.trans (T_same (ap (λ (x : ℕ). bit x i) (whole_word v h))) (which (cases_eq i 40))
       where
         free : (j : ℕ) → length P.deciding ≤ j → bit (raw v) j ≡ false
         free j k = clear_after (node_at rows ws v) d 0 0 0 (λ m y. bit_none m) j (omega arith)

@@ -1,8 +1,8 @@
 // The first and the last node.
-ghost use Rattle.tally.specs.Values.{Extent as Reach, spanned};
+ghost use Rattle.std.specs.Prelude.{refl};
+ghost use Rattle.tally.specs.Values.{Extent as Reach, spanned, spanned_assoc, spanned_right};
 ghost use Rattle.tally.specs.Values.Extent.{nowhere, across};
 ghost use Rattle.tally.specs.Reaches.{reach};
-ghost use Rattle.std.proofs.Common.{rules};
 
 use crate::Tally;
 
@@ -25,11 +25,11 @@ impl Tally for Extent {
 
     const WIDTH: usize = 11;
 
-    ghost assoc = { Prim.search rules };
+    ghost assoc = { spanned_assoc };
 
-    ghost left = { Prim.search rules };
+    ghost left = { λ a. refl };
 
-    ghost right = { Prim.search rules };
+    ghost right = { spanned_right };
 
     fn none() -> Extent {
         Extent::Nowhere

@@ -19,7 +19,7 @@ use Rattle.commands.proofs.Denotes.{denoted}
 use Rattle.sweep.specs.Rising.{word_at, risen}
 use Rattle.sweep.specs.Falling.{entered, made, acting, sent, place_at, fallen}
 use Rattle.sweep.specs.Claims.{decisions, Rose}
-use Rattle.sweep.proofs.Risen.{T-same, length_risen, rises_right}
+use Rattle.sweep.proofs.Risen.{T_same, length_risen, rises_right}
 use Rattle.sweep.proofs.Fallen.{falls_right}
 use Rattle.tallying.specs.Bits.{RisenBits, FallenBits, RiseBits, FallBits}
 use Rattle.tallying.proofs.Stages.{risen_join}
@@ -63,8 +63,8 @@ module _ (bytes : List ℕ) (P : Program) (rows : List Row) (ws : List ℕ) (d :
 
   risen_part : (left : ℕ) → left ≤ count rows → RisenBits P rows left (risen rows (commands_of bytes) left (count rows - left) ws)
   risen_part left h = record {
-    deciding = λ i v a l b. Iff.trans (T-same (ap (λ (w : ℕ). bit w i) (part left h v l))) (decided i v a b);
-    others = λ i v a l b. Iff.trans (T-same (ap (λ (w : ℕ). bit w i) (part left h v l))) (rose.clear i v a b);
+    deciding = λ i v a l b. Iff.trans (T_same (ap (λ (w : ℕ). bit w i) (part left h v l))) (decided i v a b);
+    others = λ i v a l b. Iff.trans (T_same (ap (λ (w : ℕ). bit w i) (part left h v l))) (rose.clear i v a b);
   }
 
   long : count rows ≤ length full
@@ -76,9 +76,9 @@ module _ (bytes : List ℕ) (P : Program) (rows : List Row) (ws : List ℕ) (d :
       let fell = falls_right bytes P rows full (denoted bytes P d) d.0 ok long rose next h in
       let few = d.0.deciding_few in
       record {
-        deciding = λ i v a b. Iff.trans (T-same (fell.low i v (omega arith) b)) (decided i v a b);
+        deciding = λ i v a b. Iff.trans (T_same (fell.low i v (omega arith) b)) (decided i v a b);
         sending = λ j v b. Iff.trans (fell.high j v b) ((agreeing P (decisions full) rows ok d.0 rose.right).comes next j v);
-        others = λ i v a c b t. let y = ((rose.clear i v a b).0 ((T-same (fell.low i v c b)).0 t)).0 in omega arith;
+        others = λ i v a c b t. let y = ((rose.clear i v a b).0 ((T_same (fell.low i v c b)).0 t)).0 in omega arith;
       }
 
 pub rise_bits : RiseBits

@@ -1,7 +1,7 @@
-// Times rise, fall and tally over a tree, as rows and as parentheses, for some queries. With the word `run` the trees have
-// 512 to 8,192 nodes and the queries are ten; with two files, one of a feed and one of queries, a line each, they are those.
-// For the harness that measures the stack, the word is a kind of tree, with a feed and a query as input, or `sizes` for the
-// sizes of types. Without arguments it only says what it takes.
+// Times rise, fall and tally over a tree, as rows and as parentheses, for some queries. Where the word `run` is among its
+// arguments the trees have 512 to 8,192 nodes and the queries are ten; with two files, one of a feed and one of queries, a
+// line each, they are those. For the harness that measures the stack, the word is a kind of tree, with a feed and a query
+// as input, or `sizes` for the sizes of types. Without arguments it only says how it is made to measure.
 #![tactic(auto)]
 
 mod probe;
@@ -37,15 +37,29 @@ const QUERIES: &str = "//step//warn
 //step[warn or text()]
 //card[descendant::warn and not(descendant::card)]/step[warn]/warn/text()";
 
-// How often each sweep is timed; the shortest time counts.
+// How often each sweep is timed.
 const TURNS: u32 = 50;
 
-// The shortest times of sweeps over a tree, in nanoseconds, and how many nodes were selected.
+// What is printed of a query's turns: their mean in nanoseconds a node, or their shortest in tenths of these.
+#[derive(Clone, Copy)]
+enum Form {
+    Mean,
+    Shortest,
+}
+
+// What sweeps over a tree took, in nanoseconds.
 #[derive(Clone, Copy)]
 struct Times {
     rise: u128,
     fall: u128,
     tally: u128,
+}
+
+// All turns of a query together, the shortest of them, and how many nodes were selected.
+#[derive(Clone, Copy)]
+struct Turns {
+    all: Times,
+    shortest: Times,
     selected: u16,
 }
 
@@ -54,6 +68,20 @@ fn main(rt: HostRuntime) -> anyhow::Result<()> {
 }
 
 fn start(rt: &HostRuntime) -> anyhow::Result<()> {
+    let mut asked = false;
+    for word in env::args(rt)? {
+        if word.as_str() == "run" {
+            asked = true;
+        }
+    }
+    if asked {
+        measure_made(rt)
+    } else {
+        start_other(rt)
+    }
+}
+
+fn start_other(rt: &HostRuntime) -> anyhow::Result<()> {
     let mut words = env::args(rt)?;
     let _program = words.next();
     let first = words.next();
@@ -74,10 +102,9 @@ fn measure_asked(rt: &HostRuntime, word: &str, queries: Option<String>) -> anyho
         Some(file) => {
             let feed = fs::read(rt, word)?;
             let queries = fs::read_to_string(rt, file.as_str())?;
-            measure(rt, feed.as_slice(), queries.as_str())
+            measure(rt, feed.as_slice(), queries.as_str(), Form::Shortest)
         }
         None => match word {
-            "run" => measure_made(rt),
             "parentheses" => probe(rt, Kind::Parentheses),
             "rows" => probe(rt, Kind::Rows),
             "excerpt" => probe(rt, Kind::Excerpt),
@@ -89,9 +116,10 @@ fn measure_asked(rt: &HostRuntime, word: &str, queries: Option<String>) -> anyho
 
 // Trees of 512 to 8,192 nodes.
 fn measure_made(rt: &HostRuntime) -> anyhow::Result<()> {
+    println!(rt; "kind nodes rise fall tally query")?;
     for units in [170usize, 341, 682, 1365, 2730] {
         let feed = feed_of(rt.alloc(), units)?;
-        measure(rt, feed.as_slice(), QUERIES)?;
+        measure(rt, feed.as_slice(), QUERIES, Form::Mean)?;
     }
     Ok(())
 }
@@ -112,7 +140,7 @@ fn feed_of(heap: Global, units: usize) -> Result<Vec<u8>, AllocError> {
     Ok(feed)
 }
 
-fn measure(rt: &HostRuntime, feed: &[u8], queries: &str) -> anyhow::Result<()> {
+fn measure(rt: &HostRuntime, feed: &[u8], queries: &str, form: Form) -> anyhow::Result<()> {
     let heap = rt.alloc();
     let mut bits = vec![in heap; 0u8; 2048]?;
     let mut labels = vec![in heap; 0u16; 8192]?;
@@ -135,8 +163,8 @@ fn measure(rt: &HostRuntime, feed: &[u8], queries: &str) -> anyhow::Result<()> {
     let Some(fed) = names.as_slice().get(0..end.names) else {
         return Err(anyhow!("the feed was refused"));
     };
-    measure_rows(rt, &tree, fed, queries)?;
-    measure_queries(rt, "parentheses", &tree, fed, queries)
+    measure_rows(rt, &tree, fed, queries, form)?;
+    measure_queries(rt, "parentheses", &tree, fed, queries, form)
 }
 
 fn measure_rows(
@@ -144,6 +172,7 @@ fn measure_rows(
     tree: &ParenTree<'_>,
     names: &[Slot],
     queries: &str,
+    form: Form,
 ) -> anyhow::Result<()> {
     let heap = rt.alloc();
     let mut stored = vec![in heap; StoredRow {
@@ -161,7 +190,7 @@ fn measure_rows(
     if tree.load(rows).is_err() {
         return Err(anyhow!("the rows are of no tree"));
     }
-    measure_queries(rt, "rows", &tree, names, queries)
+    measure_queries(rt, "rows", &tree, names, queries, form)
 }
 
 fn measure_queries<T: Tree>(
@@ -170,21 +199,51 @@ fn measure_queries<T: Tree>(
     tree: &T,
     names: &[Slot],
     queries: &str,
+    form: Form,
 ) -> anyhow::Result<()> {
     for text in queries.lines() {
         let Ok(query) = read(text.as_bytes()) else {
             return Err(anyhow!("a query was refused"));
         };
-        let times = time_query(rt, tree, &query, names)?;
+        let turns = time_query(rt, tree, &query, names)?;
         let nodes = tree.count();
-        let rise = per_node(times.rise, nodes);
-        let fall = per_node(times.fall, nodes);
-        let tally = per_node(times.tally, nodes);
-        let selected = times.selected;
-        println!(rt;
-            "{kind} {nodes} nodes, {selected} selected, ns a node: rise {rise} fall {fall} tally {tally}: {text}"
-        )?;
+        match form {
+            Form::Mean => print_mean(rt, kind, nodes, turns.all, query.len)?,
+            Form::Shortest => print_shortest(rt, kind, nodes, turns, text)?,
+        }
     }
+    Ok(())
+}
+
+fn print_mean(
+    rt: &HostRuntime,
+    kind: &str,
+    nodes: usize,
+    all: Times,
+    bytes: u16,
+) -> anyhow::Result<()> {
+    let share = (nodes as u128).saturating_mul(TURNS as u128).max(1);
+    let rise = all.rise / share;
+    let fall = all.fall / share;
+    let tally = all.tally / share;
+    println!(rt; "{kind} {nodes} {rise} {fall} {tally} of {bytes} bytes")?;
+    Ok(())
+}
+
+fn print_shortest(
+    rt: &HostRuntime,
+    kind: &str,
+    nodes: usize,
+    turns: Turns,
+    text: &str,
+) -> anyhow::Result<()> {
+    let rise = per_node(turns.shortest.rise, nodes);
+    let fall = per_node(turns.shortest.fall, nodes);
+    let tally = per_node(turns.shortest.tally, nodes);
+    let selected = turns.selected;
+    println!(rt;
+        "{kind} {nodes} nodes, {selected} selected, ns a node: rise {rise} fall {fall} tally {tally}: {text}"
+    )?;
     Ok(())
 }
 
@@ -209,7 +268,7 @@ fn time_query<T: Tree>(
     tree: &T,
     query: &Query,
     names: &[Slot],
-) -> anyhow::Result<Times> {
+) -> anyhow::Result<Turns> {
     let heap = rt.alloc();
     let mut buffer = vec![in heap; 0u8; 2048]?;
     let mut work = vec![in heap; 0u64; 8192]?;
@@ -220,21 +279,33 @@ fn time_query<T: Tree>(
         return Err(anyhow!("a translation was refused"));
     };
     let mut selector = Selector::new();
-    let mut times = Times {
-        rise: u128::MAX,
-        fall: u128::MAX,
-        tally: u128::MAX,
+    let mut turns = Turns {
+        all: Times {
+            rise: 0,
+            fall: 0,
+            tally: 0,
+        },
+        shortest: Times {
+            rise: u128::MAX,
+            fall: u128::MAX,
+            tally: u128::MAX,
+        },
         selected: 0,
     };
     for _ in 0..TURNS {
-        let once = time_turn(rt, &mut selector, tree, program, work.as_mut_slice())?;
-        times.rise = times.rise.min(once.rise);
-        times.fall = times.fall.min(once.fall);
-        times.tally = times.tally.min(once.tally);
-        times.selected = once.selected;
+        let (once, selected) = time_turn(rt, &mut selector, tree, program, work.as_mut_slice())?;
+        turns.all.rise = turns.all.rise.saturating_add(once.rise);
+        turns.all.fall = turns.all.fall.saturating_add(once.fall);
+        turns.all.tally = turns.all.tally.saturating_add(once.tally);
+        turns.shortest.rise = turns.shortest.rise.min(once.rise);
+        turns.shortest.fall = turns.shortest.fall.min(once.fall);
+        turns.shortest.tally = turns.shortest.tally.min(once.tally);
+        turns.selected = selected;
     }
-    Ok(times)
+    Ok(turns)
 }
+
+// What one turn takes, and how many nodes are selected.
 
 fn time_turn<T: Tree>(
     rt: &HostRuntime,
@@ -242,7 +313,7 @@ fn time_turn<T: Tree>(
     tree: &T,
     program: &[u8],
     work: &mut [u64],
-) -> anyhow::Result<Times> {
+) -> anyhow::Result<(Times, u16)> {
     let n = tree.count();
     if selector.load(tree, program).is_err() {
         return Err(anyhow!("a load was refused"));
@@ -256,16 +327,11 @@ fn time_turn<T: Tree>(
     let third = Instant::now(rt)?;
     let counted = selector.tally::<T, Count>(tree, work, 0, n);
     let tally = third.elapsed(rt)?.as_nanos();
-    let Ok(all) = counted else {
-        return Err(anyhow!("a tally was refused"));
+    let Ok(selected) = counted else {
+        return Err(anyhow!("a sweep was refused"));
     };
     if risen.is_err() || fallen.is_err() {
         return Err(anyhow!("a sweep was refused"));
     }
-    Ok(Times {
-        rise,
-        fall,
-        tally,
-        selected: all.count,
-    })
+    Ok((Times { rise, fall, tally }, selected.count))
 }
