@@ -48,13 +48,21 @@ fn spell_whole(writer: &mut Writer, query: &Query)
     write_steps(writer, query, false, Some(0), slash, 46);
 }
 
+// The whole spelling.
+fn spelled(query: &Query) -> Writer
+    ensures { take result.len result.bytes ≡ short (query_of query.now) }
+{
+    let mut writer = fresh();
+    spell_whole(&mut writer, query);
+    writer
+}
+
 // Writes the spelling into the memory, and gives its length.
 fn written(query: &Query, memory: &mut [u8]) -> usize
     requires { 512 ≤ length memory.old }
     ensures { Written (query_of query.now) result memory.old memory.new }
 {
-    let mut writer = fresh();
-    spell_whole(&mut writer, query);
+    let writer = spelled(query);
     for i in 0..writer.len {
         memory[i] = writer.bytes[i];
     }
