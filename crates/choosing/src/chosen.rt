@@ -3,7 +3,7 @@ use feedfile::command::FileFault;
 use query::fault::Fault as QueryFault;
 
 // Why an input is refused.
-#[derive(Clone, Copy)]
+#[derive(Clone, Copy, Debug, PartialEq, Eq)]
 pub enum Fault {
     // it has more than 65,536 bytes
     TooLong,

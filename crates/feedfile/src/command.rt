@@ -2,7 +2,7 @@
 use growth::command::Command;
 use growth::fault::Fault;
 
-#[derive(Clone, Copy)]
+#[derive(Clone, Copy, Debug, PartialEq, Eq)]
 pub enum FileCommand {
     // a command that a growing feed takes
     Feed(Command),
@@ -11,7 +11,7 @@ pub enum FileCommand {
 }
 
 // A fault with the place of its command, counted from 0.
-#[derive(Clone, Copy)]
+#[derive(Clone, Copy, Debug, PartialEq, Eq)]
 pub enum FileFault {
     // a command is unknown or cut short, or SEAL is missing
     Unknown { place: usize },

@@ -15,7 +15,7 @@ use parens::paren_tree::ParenTree;
 use scan::block::Block;
 
 // Where a feed ended in its file, and how many names it has.
-#[derive(Clone, Copy)]
+#[derive(Clone, Copy, Debug, PartialEq, Eq)]
 pub struct FileEnd {
     // the place after SEAL
     pub place: usize,

@@ -1,5 +1,5 @@
 // The symbols of a query text: the tokens that are no names.
-#[derive(Clone, Copy)]
+#[derive(Clone, Copy, Debug, PartialEq, Eq)]
 pub enum Symbol {
     Slash,
     DoubleSlash,

@@ -1,6 +1,6 @@
 // What a growing feed takes.
 
-#[derive(Clone, Copy)]
+#[derive(Clone, Copy, Debug, PartialEq, Eq)]
 pub enum Command {
     // opens an element of a label
     Open(u16),

@@ -1,6 +1,6 @@
 // Why a feed refuses a command.
 
-#[derive(Clone, Copy)]
+#[derive(Clone, Copy, Debug, PartialEq, Eq)]
 pub enum Fault {
     // a slot holds no name, repeats one or is the 513th
     Slot,

@@ -6,7 +6,7 @@ ghost use Rattle.parens.specs.Loading.{HeldLoads, LoadedHeld, TreesHeld};
 use scan::directory::{blocks_for, bytes_for};
 
 // The bytes of parentheses, the labels and the rows of the directory.
-#[derive(Clone, Copy)]
+#[derive(Clone, Copy, Debug, PartialEq, Eq)]
 pub struct Lengths {
     pub bytes: usize,
     pub labels: usize,

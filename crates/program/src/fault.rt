@@ -1,7 +1,7 @@
 // Why bytes are refused as a program.
 
 // breaks a rule for programs
-#[derive(Clone, Copy)]
+#[derive(Clone, Copy, Debug, PartialEq, Eq)]
 pub enum Fault {
     Broken,
 }

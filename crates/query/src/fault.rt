@@ -1,6 +1,6 @@
 // Why a query text is refused, and where.
 
-#[derive(Clone, Copy)]
+#[derive(Clone, Copy, Debug, PartialEq, Eq)]
 pub enum Fault {
     // the text has more than 512 bytes
     Long,

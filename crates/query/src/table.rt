@@ -1,6 +1,6 @@
 // The steps and predicates of a query, as rows that refer to one another by their numbers.
 
-#[derive(Clone, Copy)]
+#[derive(Clone, Copy, Debug, PartialEq, Eq)]
 pub enum Axis {
     SelfNode,
     Child,
@@ -9,7 +9,7 @@ pub enum Axis {
 }
 
 // A name is a part of the query's text.
-#[derive(Clone, Copy)]
+#[derive(Clone, Copy, Debug, PartialEq, Eq)]
 pub enum NodeTest {
     Element,
     Name { at: u16, len: u8 },
@@ -19,7 +19,7 @@ pub enum NodeTest {
 
 // A step of a path. `slash`: it begins a path that has a leading slash. `bracket`: the predicate in its brackets.
 // `next`: the step after it in its path.
-#[derive(Clone, Copy)]
+#[derive(Clone, Copy, Debug, PartialEq, Eq)]
 pub struct Step {
     pub slash: bool,
     pub axis: Axis,
@@ -29,7 +29,7 @@ pub struct Step {
 }
 
 // What a predicate says: that a path, named by its first step, reaches some node, or two predicates joined.
-#[derive(Clone, Copy)]
+#[derive(Clone, Copy, Debug, PartialEq, Eq)]
 pub enum Shape {
     Path(u8),
     And(u8, u8),
@@ -37,7 +37,7 @@ pub enum Shape {
 }
 
 // A predicate, with the number of `not` around it.
-#[derive(Clone, Copy)]
+#[derive(Clone, Copy, Debug, PartialEq, Eq)]
 pub struct Predicate {
     pub negations: u8,
     pub shape: Shape,

@@ -3,14 +3,14 @@ use lexer::Reader;
 use query::table::{Axis, NodeTest, Table};
 
 // Where a path stands: outside brackets or inside.
-#[derive(Clone, Copy)]
+#[derive(Clone, Copy, Debug, PartialEq, Eq)]
 pub enum Region {
     Outside,
     Inside,
 }
 
 // What leads to a step.
-#[derive(Clone, Copy)]
+#[derive(Clone, Copy, Debug, PartialEq, Eq)]
 pub enum Lead {
     Nothing,
     Slash,
@@ -18,7 +18,7 @@ pub enum Lead {
 }
 
 // A step without its bracket.
-#[derive(Clone, Copy)]
+#[derive(Clone, Copy, Debug, PartialEq, Eq)]
 pub struct Head {
     pub axis: Axis,
     pub test: NodeTest,

@@ -1,5 +1,5 @@
 // Why a selection is refused.
-#[derive(Clone, Copy)]
+#[derive(Clone, Copy, Debug, PartialEq, Eq)]
 pub enum Fault {
     // the program's buffer has fewer than 2,048 bytes
     Memory,

@@ -1,7 +1,7 @@
 // Why a call is refused.
 use program::fault::Fault as ProgramFault;
 
-#[derive(Clone, Copy)]
+#[derive(Clone, Copy, Debug, PartialEq, Eq)]
 pub enum Fault {
     Program(ProgramFault),
     // no program is loaded

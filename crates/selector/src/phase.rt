@@ -1,5 +1,5 @@
 // How far a selector has come.
-#[derive(Clone, Copy)]
+#[derive(Clone, Copy, Debug, PartialEq, Eq)]
 pub enum Phase {
     // no program is loaded
     Empty,

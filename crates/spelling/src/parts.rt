@@ -1,14 +1,14 @@
 // The parts of a writer of spellings.
 
 // Why a spelling is refused.
-#[derive(Clone, Copy)]
+#[derive(Clone, Copy, Debug, PartialEq, Eq)]
 pub enum Fault {
     // memory is too small
     Memory,
 }
 
 // Where a predicate stands: alone, beside the right of `or` or the left of `and`, beside the right of `and`.
-#[derive(Clone, Copy)]
+#[derive(Clone, Copy, Debug, PartialEq, Eq)]
 pub enum Place {
     Low,
     Middle,

@@ -1,5 +1,5 @@
 // One node of a stored tree.
-#[derive(Clone, Copy)]
+#[derive(Clone, Copy, Debug, PartialEq, Eq)]
 pub struct StoredRow {
     pub label: u16,
     // how far back its parent's number is; 0 at the root

@@ -3,7 +3,7 @@ ghost use Rattle.tally.specs.Values.{Capped, cap, add, add_assoc, add_left, add_
 
 use crate::Tally;
 
-#[derive(Clone, Copy)]
+#[derive(Clone, Copy, Debug, PartialEq, Eq)]
 pub struct Count {
     pub count: u16,
 }

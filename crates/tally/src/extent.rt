@@ -6,7 +6,7 @@ ghost use Rattle.tally.specs.Reaches.{reach};
 
 use crate::Tally;
 
-#[derive(Clone, Copy)]
+#[derive(Clone, Copy, Debug, PartialEq, Eq)]
 pub enum Extent {
     Nowhere,
     Across { first: u16, last: u16 },

@@ -1,6 +1,6 @@
 // Why a tree is refused.
 
-#[derive(Clone, Copy)]
+#[derive(Clone, Copy, Debug, PartialEq, Eq)]
 pub enum Fault {
     // memory is too small
     Memory,
