@@ -111,3 +111,16 @@ commands_none (op ∷ bs) e = ap (λ (t : Taken). spelled t (commands (length bs
 -- the same, as the code learns it
 pub next_command : (bs : List ℕ) (c d : Command) (rest : List ℕ) → found c rest ≡ taken bs → c ≡ d → d ∷ commands_of rest ≡ commands_of bs
 next_command bs c d rest e is = ap (λ (x : Command). x ∷ commands_of rest) (sym is) ∙ sym (commands_more bs c rest (sym e))
+
+-- no more commands than bytes
+spelled_short : (n : ℕ) (f : List ℕ → List Command) → ((bs : List ℕ) → length (f bs) ≤ n) → (t : Taken) → length (spelled t f) ≤ suc n
+spelled_short n f short None = omega arith
+spelled_short n f short (Some t) = omega (arith, short t.1)
+
+at_most : (n : ℕ) (bs : List ℕ) → length (commands n bs) ≤ n
+at_most zero bs = omega arith
+at_most (suc n) bs = spelled_short n (commands n) (λ rest. at_most n rest) (taken bs)
+
+pub commands_short : (bs : List ℕ) → length (commands_of bs) ≤ length bs
+unfolding commands_of
+commands_short bs = at_most (length bs) bs

@@ -4,7 +4,7 @@ ghost use Rattle.commands.specs.Commands.{commands_of};
 ghost use Rattle.commands.specs.Deciding.{holds_at, decide};
 ghost use Rattle.commands.specs.Asked.{with_command, asked as asked_of, nothing};
 
-use crate::decode::take_command;
+use crate::decode::Commands;
 use crate::stack::{both, either, neither, push, top};
 use commands::command::{Atom, Command, Kind};
 use commands::node::{Asked, Node};
@@ -30,11 +30,10 @@ fn holds(atom: Atom, node: Node, word: u64) -> bool
 pub fn decided(program: &[u8], node: Node) -> u64
     ensures { result ≡ decide node (commands_of program.now) 0 0 0 }
 {
-    let mut bytes = program;
     let mut stack: u32 = 0;
     let mut word: u64 = 0;
     let mut state: usize = 0;
-    while let Some((command, rest)) = take_command(bytes) {
+    for command in Commands::new(program) {
         match command {
             Command::Value(atom) => stack = push(stack, holds(atom, node, word)),
             Command::And => stack = both(stack),
@@ -47,7 +46,6 @@ pub fn decided(program: &[u8], node: Node) -> u64
             }
             _ => return word,
         }
-        bytes = rest;
     }
     word
 }
@@ -73,11 +71,9 @@ fn with_command(command: Command, asked: Asked) -> Asked
 pub fn asked(program: &[u8]) -> Asked
     ensures { result ≡ asked_of (commands_of program.now) nothing }
 {
-    let mut bytes = program;
     let mut asked = Asked { first: 0, next: 0 };
-    while let Some((command, rest)) = take_command(bytes) {
+    for command in Commands::new(program) {
         asked = with_command(command, asked);
-        bytes = rest;
     }
     asked
 }

@@ -1,9 +1,11 @@
-// The first command of a program's bytes, and the bytes after it.
-ghost use Rattle.std.specs.Prelude.{◌≡◌};
+// The commands of a program's bytes.
+ghost use Rattle.std.specs.Prelude.{◌≡◌, ◌≤◌, length};
 ghost use Rattle.commands.specs.Bytes.{taken, split};
+ghost use Rattle.commands.specs.Commands.{commands_of};
 
 use commands::command::{Atom, Command, Kind, Move};
 
+// The first command, and the bytes after it.
 pub fn take_command(bytes: &[u8]) -> Option<(Command, &[u8])>
     ensures { split result ≡ taken bytes.now }
 {
@@ -31,5 +33,48 @@ pub fn take_command(bytes: &[u8]) -> Option<(Command, &[u8])>
         [0x2f, rest @ ..] => Some((Command::Done, rest)),
         [0xff, rest @ ..] => Some((Command::End, rest)),
         _ => None,
+    }
+}
+
+// The commands, one after another, to where the bytes that are left begin with none.
+#[derive(Clone, Copy, Debug, Drop)]
+pub struct Commands<'a> {
+    bytes: &'a [u8],
+}
+
+impl<'a> Commands<'a> {
+    ghost use Rattle.program.specs.Commands.{left};
+
+    pub fn new(bytes: &'a [u8]) -> Commands<'a>
+        ensures bytes { result.bytes.now ≡ bytes.now }
+        ensures all { left result ≡ commands_of bytes.now }
+        ensures few { length (left result) ≤ length bytes.now }
+    {
+        Commands { bytes }
+    }
+
+    // The bytes that are left.
+    pub fn rest(&self) -> &'a [u8]
+        ensures { result.now ≡ self.now.bytes.now }
+    {
+        self.bytes
+    }
+}
+
+impl<'a> Iterator for Commands<'a> {
+    ghost use Rattle.std.specs.Iterator.{YieldsFirst, item_count};
+    ghost use Rattle.program.specs.Commands.{left};
+
+    type Item = Command;
+
+    ghost next_gives = { YieldsFirst left };
+
+    ghost remaining = { item_count left };
+
+    #[inline]
+    fn next(&mut self) -> Option<Command> {
+        let (command, rest) = take_command(self.bytes)?;
+        self.bytes = rest;
+        Some(command)
     }
 }

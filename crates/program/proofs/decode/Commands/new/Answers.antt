@@ -1,0 +1,5 @@
+use Rattle.commands.proofs.Spells.{commands_short}
+use Rattle.program.proofs.decode.Commands.new.Goals as goal
+
+pub returns-clause-few : goal.returns-clause-few
+returns-clause-few c = commands_short c.args.bytes.now
