@@ -2,6 +2,7 @@
 use Rattle.std.proofs.Common.{◌≡◌, ℕ, ◌+◌, ◌^◌, ◌<◌, Bool, true, false, ◌&&◌, ◌||◌, List, [], ◌∷◌, sym, refl, ap, ◌∙◌, ⊎_elim}
 use lib.Bits.{bit_and}
 use Rattle.std.proofs.lemmas.Bool.{cases_lt}
+use Rattle.std.specs.List.{fold}
 use Rattle.words.specs.Bit.{bit, with_bit, put_bit}
 use Rattle.words.proofs.Bits.{bit_set, bit-or, bit-and, bit_past, with_bit_or}
 use Rattle.commands.specs.declared.node.Node.{Node}
@@ -106,3 +107,8 @@ decide_seen (When q ∷ cs) a n s w p f = refl
 decide_seen (Make m ∷ cs) a n s w p f = refl
 decide_seen (Done ∷ cs) a n s w p f = refl
 decide_seen (End ∷ cs) a n s w p f = refl
+
+-- the commands are asked one after another
+pub asked_fold : (cs : List Command) (a : Asked) → fold (λ (x : Asked) (c : Command). with_command c x) a cs ≡ asked cs a
+asked_fold [] a = refl
+asked_fold (c ∷ cs) a = asked_fold cs (with_command c a)

@@ -1,5 +1,5 @@
 -- The check accepts exactly the bytes of programs that keep the rules.
-use Rattle.std.proofs.Common.{◌≡◌, ℕ, zero, suc, ◌+◌, ◌-◌, ◌<◌, ◌≤◌, Bool, true, false, ◌&&◌, eqb, ltb, leb, List, [], ◌∷◌, length, get_or, Some, None, Option, sym, refl, ap, ◌∙◌, subst, arith}
+use Rattle.std.proofs.Common.{◌≡◌, ℕ, zero, suc, ◌+◌, ◌-◌, ◌<◌, ◌≤◌, Bool, true, false, ◌&&◌, eqb, ltb, leb, List, [], ◌∷◌, length, get_or, Some, None, Option, Decides, sym, refl, ap, ◌∙◌, subst, arith}
 use Rattle.std.proofs.lemmas.Bool.{false≢true, and_parts, and_from, ltb-true, lt-ltb, leb-true, le-leb, eqb-true, eq-eqb, cond-true}
 use Rattle.automata.specs.Program.{Formula, Rule, Program, Proper, ProperRules, Names, Every, Goes, width, bytes}
 use Rattle.automata.specs.Program as program
@@ -13,7 +13,7 @@ use Rattle.commands.specs.declared.counts.Counts.{Counts}
 use Rattle.commands.specs.Commands.{commands_of}
 use Rattle.commands.specs.Rules.{after_deciding}
 use Rattle.commands.specs.Decoded.{formula, move, mapped, deciding, states, below, with_sending, program_of, widths, decoded}
-use Rattle.commands.specs.Checked.{if_so, thence, names, goes, formulas_keep, rules_keep, few_states, all_keep, counts, surveyed, Loadable}
+use Rattle.commands.specs.Checked.{if_so, thence, names, goes, formulas_keep, rules_keep, few_states, all_keep, counts, surveyed, accepted, Loadable}
 use Rattle.commands.proofs.Grammar.{Opens, Defines, Sends, Below, Decoded, decoded_reads, defines, sends, rest_after}
 use Rattle.commands.proofs.Grammar as reads
 use Rattle.commands.proofs.Steps.{so_value}
@@ -357,3 +357,14 @@ loadable_keeps bs L =
     and_from (few_states N) _
     (and_from _ _ (and_from _ _ (le-leb 1 N.deciding a) (le-leb N.deciding 40 b)) (and_from _ _ (le-leb 1 N.sending c) (le-leb N.sending 24 d)))
     (and_from _ _ f (ap (λ (x : List Command). rules_keep N x (record { state = 0; inside = false })) rest ∙ r))
+
+-- the answer of the check is whether the bytes mean such a program
+pub accepted_decides : (bs : List ℕ) → Decides (accepted bs) (Loadable bs)
+accepted_decides bs = (λ e. loads (surveyed bs) refl (and_parts (leb (length bs) 2048) _ e), λ L. and_from (leb (length bs) 2048) _ (le-leb (length bs) 2048 (loadable_short bs L)) (ap kept (loadable_survey bs L) ∙ loadable_keeps bs L))
+  where
+    kept : Option Counts → Bool
+    kept o = thence o (λ n. all_keep n (commands_of bs))
+
+    loads : (o : Option Counts) → surveyed bs ≡ o → (leb (length bs) 2048 ≡ true) × (kept (surveyed bs) ≡ true) → Loadable bs
+    loads None q h = refused (sym (ap kept q) ∙ h.1)
+    loads (Some N) q h = accepts bs N (leb-true (length bs) 2048 h.0) q (sym (ap kept q) ∙ h.1)

@@ -1,6 +1,8 @@
 -- What is left after a command is the end of the bytes.
 use Rattle.std.proofs.Common.{◌≡◌, ℕ, zero, suc, ◌+◌, ◌-◌, ◌<◌, ◌≤◌, Bool, true, false, cond, eqb, List, [], ◌∷◌, length, drop, Some, None, sym, refl, ap, ◌∙◌, subst, ⊎_elim, arith, length-drop}
 use Rattle.std.proofs.lemmas.List.{drop-drop}
+use Rattle.std.proofs.lemmas.List.Sums.{sum_by-cons, take_while-cons}
+use Rattle.std.specs.List.{sum_by, take_while}
 use Rattle.commands.specs.declared.command.Atom.TheVariants.{Label, True, First, Next, Here}
 use Rattle.commands.specs.declared.command.Move.TheVariants.{Down, On, Stay, Mark}
 use Rattle.commands.specs.declared.command.Command.{Command}
@@ -8,10 +10,10 @@ use Rattle.commands.specs.declared.command.Command.TheVariants.{Value, And, Or, 
 use Rattle.commands.specs.Bytes.{Taken, taken, one, two, kind, operands}
 use Rattle.commands.specs.Begin.{lead, rules_at}
 use Rattle.commands.specs.Commands.{commands_of}
-use Rattle.commands.specs.Decoded.{width}
+use Rattle.commands.specs.Decoded.{width, widths}
 use Rattle.commands.specs.Rules.{deciding, after_deciding}
 use Rattle.std.proofs.lemmas.Bool.{cases_Bool, cond-true, cond-false}
-use Rattle.commands.proofs.Spells.{found, taken_width, taken_less, commands_more, commands_none}
+use Rattle.commands.proofs.Spells.{found, taken_width, taken_less, commands_more, commands_none, widths_short}
 
 -- the bytes left are those after the first k
 abbrev Ends : List ℕ → Taken → Type 0
@@ -124,3 +126,18 @@ begin_by (suc n) bs h = go (λ rest l. begin_by n rest (omega arith)) (taken bs)
 
 pub rules_begin : (bs : List ℕ) → commands_of (drop (rules_at bs) bs) ≡ after_deciding (commands_of bs)
 rules_begin bs = begin_by (length bs) bs (omega arith)
+
+-- the commands before the first of a sending state take so many bytes
+pub lead_sum : (cs : List Command) → sum_by width (take_while deciding cs) ≡ lead cs
+lead_sum [] = refl
+lead_sum (c ∷ cs) =
+    let more = lead_sum cs in
+    ap (sum_by width) (take_while-cons deciding c cs)
+    ∙ elim (deciding c) as (λ b. sum_by width (cond b (c ∷ take_while deciding cs) []) ≡ cond b (width c + lead cs) 0) [ true ↦ sum_by-cons width c (take_while deciding cs) ∙ ap (λ (n : ℕ). width c + n) more | false ↦ refl ]
+
+lead_within : (cs : List Command) → lead cs ≤ widths cs
+lead_within [] = omega arith
+lead_within (c ∷ cs) = let more = lead_within cs in elim (deciding c) as (λ b. cond b (width c + lead cs) 0 ≤ width c + widths cs) [ true ↦ omega arith | false ↦ omega arith ]
+
+pub rules_within : (bs : List ℕ) → rules_at bs ≤ length bs
+rules_within bs = omega (arith, lead_within (commands_of bs), widths_short bs)

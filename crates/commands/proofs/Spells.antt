@@ -5,7 +5,7 @@ use Rattle.commands.specs.declared.command.Move.TheVariants.{Down, On, Stay, Mar
 use Rattle.commands.specs.declared.command.Command.{Command}
 use Rattle.commands.specs.declared.command.Command.TheVariants.{Value, And, Or, Not, Define, When, Make, Done, End}
 use Rattle.commands.specs.Bytes.{Taken, taken, operands, one, two, kind}
-use Rattle.commands.specs.Decoded.{width}
+use Rattle.commands.specs.Decoded.{width, widths}
 use Rattle.commands.specs.Commands.{spelled, commands, commands_of}
 
 abbrev pub found : Command → List ℕ → Taken
@@ -112,15 +112,22 @@ commands_none (op ∷ bs) e = ap (λ (t : Taken). spelled t (commands (length bs
 pub next_command : (bs : List ℕ) (c d : Command) (rest : List ℕ) → found c rest ≡ taken bs → c ≡ d → d ∷ commands_of rest ≡ commands_of bs
 next_command bs c d rest e is = ap (λ (x : Command). x ∷ commands_of rest) (sym is) ∙ sym (commands_more bs c rest (sym e))
 
--- no more commands than bytes
-spelled_short : (n : ℕ) (f : List ℕ → List Command) → ((bs : List ℕ) → length (f bs) ≤ n) → (t : Taken) → length (spelled t f) ≤ suc n
-spelled_short n f short None = omega arith
-spelled_short n f short (Some t) = omega (arith, short t.1)
+-- the commands take no more bytes than there are, and each takes some
+spelled_widths : (n : ℕ) (bs : List ℕ) → ((rest : List ℕ) → widths (commands n rest) ≤ length rest) → (t : Taken) → taken bs ≡ t → widths (spelled t (commands n)) ≤ length bs
+spelled_widths n bs short None e = omega arith
+spelled_widths n bs short (Some t) e = omega (arith, short t.1, taken_width bs t.0 t.1 e)
 
-at_most : (n : ℕ) (bs : List ℕ) → length (commands n bs) ≤ n
-at_most zero bs = omega arith
-at_most (suc n) bs = spelled_short n (commands n) (λ rest. at_most n rest) (taken bs)
+within : (n : ℕ) (bs : List ℕ) → widths (commands n bs) ≤ length bs
+within zero bs = omega arith
+within (suc n) bs = spelled_widths n bs (λ rest. within n rest) (taken bs) refl
+
+pub widths_short : (bs : List ℕ) → widths (commands_of bs) ≤ length bs
+unfolding commands_of
+widths_short bs = within (length bs) bs
+
+pub length_widths : (cs : List Command) → length cs ≤ widths cs
+length_widths [] = omega arith
+length_widths (c ∷ cs) = let more = length_widths cs in omega (arith, some_width c)
 
 pub commands_short : (bs : List ℕ) → length (commands_of bs) ≤ length bs
-unfolding commands_of
-commands_short bs = at_most (length bs) bs
+commands_short bs = omega (arith, length_widths (commands_of bs), widths_short bs)

@@ -1,52 +1,30 @@
 // The rules for programs.
 ghost use Rattle.std.specs.Prelude.{◌≡◌, ◌^◌, ◌<◌, false, not, ◌&&◌, is_ok, Decides};
 ghost use Rattle.commands.specs.Commands.{commands_of};
-ghost use Rattle.commands.specs.Checked.{defined, closed, surveyed, names as names_defined, opens, formula_step, formulas_keep, goes as GoesTo, is_end, rule_step, rules_keep, few_states, is_empty, all_keep, accepted, Loadable};
+ghost use Rattle.commands.specs.Checked.{defined, closed, surveyed, names as names_defined, opens, formula_step, formulas_keep, goes as GoesTo, is_end, rule_step, rules_keep, few_states, all_keep, accepted, Loadable};
 ghost use Rattle.commands.specs.Denotes.{Denotes};
 ghost use Rattle.automata.specs.Program.{Program};
 ghost use Rattle.program.specs.Faults.{checked, code_of};
 
-use crate::decode::take_command;
+use crate::decode::Commands;
 use crate::fault::Fault;
 use crate::rules::rules_of;
 use commands::command::{Atom, Command, Move};
 use commands::counts::{Counts, Formulas, Rules};
 
-fn defines(command: Command) -> usize
-    ensures { result ≡ defined command }
-{
-    match command {
-        Command::Define => 1,
-        _ => 0,
-    }
-}
-
-fn closes(command: Command) -> usize
-    ensures { result ≡ closed command }
-{
-    match command {
-        Command::Done => 1,
-        _ => 0,
-    }
-}
-
 // Counts the states, where all bytes are commands.
 fn survey(program: &[u8]) -> Option<Counts>
     ensures { result ≡ surveyed program.now }
 {
-    let mut bytes = program;
-    let mut deciding: usize = 0;
-    let mut sending: usize = 0;
-    while let Some((command, rest)) = take_command(bytes) {
-        deciding += defines(command);
-        sending += closes(command);
-        bytes = rest;
+    let mut width = 0;
+    let mut deciding = 0;
+    let mut sending = 0;
+    for command in Commands::new(program) {
+        width += command.width();
+        deciding += usize::from(command == Command::Define);
+        sending += usize::from(command == Command::Done);
     }
-    if bytes.len() == 0 {
-        Some(Counts { deciding, sending })
-    } else {
-        None
-    }
+    (width == program.len()).then_some(Counts { deciding, sending })
 }
 
 // whether the atom names a state that it may
@@ -54,22 +32,13 @@ fn names(atom: Atom, states: usize, state: usize) -> bool
     ensures { result ≡ names_defined atom states state }
 {
     match atom {
-        Atom::First(q) => (q as usize) < states,
-        Atom::Next(q) => (q as usize) < states,
+        Atom::First(q) | Atom::Next(q) => (q as usize) < states,
         Atom::Here(q) => (q as usize) < state,
         _ => true,
     }
 }
 
-fn opens_state(command: Command) -> bool
-    ensures { result ≡ opens command }
-{
-    match command {
-        Command::When(_) | Command::Done => true,
-        _ => false,
-    }
-}
-
+// no method of Formulas, which stands in crate commands for the specs there; the rules for programs stand here
 fn after_formula(command: Command, states: usize, at: Formulas) -> Option<Formulas>
     requires { at.state < 2 ^ 63 }
     ensures { result ≡ formula_step command states at }
@@ -78,16 +47,12 @@ fn after_formula(command: Command, states: usize, at: Formulas) -> Option<Formul
         Command::Value(atom) if at.depth < 32 && names(atom, states, at.state) => {
             Some(Formulas {
                 depth: at.depth + 1,
-                state: at.state,
+                ..at
             })
         }
-        Command::And if at.depth >= 2 => Some(Formulas {
+        Command::And | Command::Or if at.depth >= 2 => Some(Formulas {
             depth: at.depth - 1,
-            state: at.state,
-        }),
-        Command::Or if at.depth >= 2 => Some(Formulas {
-            depth: at.depth - 1,
-            state: at.state,
+            ..at
         }),
         Command::Not if at.depth >= 1 => Some(at),
         Command::Define if at.depth == 1 => Some(Formulas {
@@ -102,17 +67,15 @@ fn after_formula(command: Command, states: usize, at: Formulas) -> Option<Formul
 fn formulas_keep(program: &[u8], states: usize) -> bool
     ensures { result ≡ formulas_keep states (commands_of program.now) (record { depth = 0; state = 0 }) }
 {
-    let mut bytes = program;
     let mut at = Formulas { depth: 0, state: 0 };
-    while let Some((command, rest)) = take_command(bytes) {
-        if opens_state(command) {
+    for command in Commands::new(program) {
+        if matches!(command, Command::When(_) | Command::Done) {
             return at.depth == 0 && at.state == states;
         }
         let Some(next) = after_formula(command, states, at) else {
             return false;
         };
         at = next;
-        bytes = rest;
     }
     false
 }
@@ -122,22 +85,19 @@ fn goes(step: Move, states: usize, state: usize) -> bool
     ensures { result ≡ GoesTo step states state }
 {
     match step {
-        Move::Down(q) => (q as usize) < states,
-        Move::On(q) => (q as usize) < states,
+        Move::Down(q) | Move::On(q) => (q as usize) < states,
         Move::Stay(q) => state < q as usize && (q as usize) < states,
         Move::Mark => true,
     }
 }
 
+// no method of Rules, for the same reason
 fn after_rule(command: Command, counts: Counts, at: Rules) -> Option<Rules>
     requires { at.state < 2 ^ 63 }
     ensures { result ≡ rule_step command counts at }
 {
     match command {
-        Command::When(p) if (p as usize) < counts.deciding => Some(Rules {
-            state: at.state,
-            inside: true,
-        }),
+        Command::When(p) if (p as usize) < counts.deciding => Some(Rules { inside: true, ..at }),
         Command::Make(step) if at.inside && goes(step, counts.sending, at.state) => Some(at),
         Command::Done => Some(Rules {
             state: at.state + 1,
@@ -147,49 +107,23 @@ fn after_rule(command: Command, counts: Counts, at: Rules) -> Option<Rules>
     }
 }
 
-fn ends(command: Command) -> bool
-    ensures { result ≡ is_end command }
-{
-    match command {
-        Command::End => true,
-        _ => false,
-    }
-}
-
-fn no_more(bytes: &[u8]) -> bool
-    ensures { result ≡ is_empty (commands_of bytes.now) }
-{
-    match take_command(bytes) {
-        Some(_) => false,
-        None => true,
-    }
-}
-
-// whether END may stand here
-fn stands_closed(at: Rules, rest: &[u8]) -> bool
-    ensures { result ≡ (not at.inside && is_empty (commands_of rest.now)) }
-{
-    !at.inside && no_more(rest)
-}
-
 // whether the commands are of sending states that keep the rules, and END
 fn rules_keep(rules: &[u8], counts: Counts) -> bool
     ensures { result ≡ rules_keep counts (commands_of rules.now) (record { state = 0; inside = false }) }
 {
-    let mut bytes = rules;
+    let mut commands = Commands::new(rules);
     let mut at = Rules {
         state: 0,
         inside: false,
     };
-    while let Some((command, rest)) = take_command(bytes) {
-        if ends(command) {
-            return stands_closed(at, rest);
+    while let Some(command) = commands.next() {
+        if command == Command::End {
+            return !at.inside && commands.next().is_none();
         }
         let Some(next) = after_rule(command, counts, at) else {
             return false;
         };
         at = next;
-        bytes = rest;
     }
     false
 }
@@ -197,7 +131,7 @@ fn rules_keep(rules: &[u8], counts: Counts) -> bool
 fn few(counts: Counts) -> bool
     ensures { result ≡ few_states counts }
 {
-    counts.deciding >= 1 && counts.deciding <= 40 && counts.sending >= 1 && counts.sending <= 24
+    (1..=40).contains(&counts.deciding) && (1..=24).contains(&counts.sending)
 }
 
 fn all_keep(program: &[u8], counts: Counts) -> bool
@@ -211,13 +145,7 @@ fn is_program(program: &[u8]) -> bool
     ensures exact { result ≡ accepted program.now }
     ensures means { Decides result (Loadable program.now) }
 {
-    if program.len() > 2048 {
-        return false;
-    }
-    match survey(program) {
-        Some(counts) => all_keep(program, counts),
-        None => false,
-    }
+    program.len() <= 2048 && survey(program).is_some_and(|counts| all_keep(program, counts))
 }
 
 // Grants exactly the bytes of a program that keeps the rules.

@@ -5,7 +5,7 @@ ghost use Rattle.commands.specs.Deciding.{holds_at, decide};
 ghost use Rattle.commands.specs.Asked.{with_command, asked as asked_of, nothing};
 
 use crate::decode::Commands;
-use crate::stack::{both, either, neither, push, top};
+use crate::stack::Stack;
 use commands::command::{Atom, Command, Kind};
 use commands::node::{Asked, Node};
 use words::{has_bit, put_bit, set_bit};
@@ -30,19 +30,19 @@ fn holds(atom: Atom, node: Node, word: u64) -> bool
 pub fn decided(program: &[u8], node: Node) -> u64
     ensures { result ≡ decide node (commands_of program.now) 0 0 0 }
 {
-    let mut stack: u32 = 0;
-    let mut word: u64 = 0;
-    let mut state: usize = 0;
+    let mut stack = Stack::EMPTY;
+    let mut word = 0;
+    let mut state = 0;
     for command in Commands::new(program) {
         match command {
-            Command::Value(atom) => stack = push(stack, holds(atom, node, word)),
-            Command::And => stack = both(stack),
-            Command::Or => stack = either(stack),
-            Command::Not => stack = neither(stack),
+            Command::Value(atom) => stack = stack.push(holds(atom, node, word)),
+            Command::And => stack = stack.join(|earlier, latest| earlier && latest),
+            Command::Or => stack = stack.join(|earlier, latest| earlier || latest),
+            Command::Not => stack = stack.turn(),
             Command::Define => {
-                word = put_bit(word, state, top(stack));
+                word = put_bit(word, state, stack.top());
                 state += 1;
-                stack = 0;
+                stack = Stack::EMPTY;
             }
             _ => return word,
         }
@@ -57,11 +57,11 @@ fn with_command(command: Command, asked: Asked) -> Asked
     match command {
         Command::Value(Atom::First(p)) => Asked {
             first: set_bit(asked.first, p as usize),
-            next: asked.next,
+            ..asked
         },
         Command::Value(Atom::Next(p)) => Asked {
-            first: asked.first,
             next: set_bit(asked.next, p as usize),
+            ..asked
         },
         _ => asked,
     }
@@ -71,9 +71,8 @@ fn with_command(command: Command, asked: Asked) -> Asked
 pub fn asked(program: &[u8]) -> Asked
     ensures { result ≡ asked_of (commands_of program.now) nothing }
 {
-    let mut asked = Asked { first: 0, next: 0 };
-    for command in Commands::new(program) {
-        asked = with_command(command, asked);
-    }
-    asked
+    Commands::new(program).fold(
+        Asked { first: 0, next: 0 },
+        |asked, command| with_command(command, asked),
+    )
 }

@@ -14,7 +14,7 @@ pub fn take_command(bytes: &[u8]) -> Option<(Command, &[u8])>
         [0x10, 1, rest @ ..] => Some((Command::Value(Atom::Kind(Kind::Text)), rest)),
         [0x10, 2, rest @ ..] => Some((Command::Value(Atom::Kind(Kind::Element)), rest)),
         [0x11, high, low, rest @ ..] => {
-            let label = *high as u16 * 256 + *low as u16;
+            let label = u16::from_be_bytes([*high, *low]);
             Some((Command::Value(Atom::Label(label)), rest))
         }
         [0x12, rest @ ..] => Some((Command::Value(Atom::True), rest)),
@@ -43,21 +43,16 @@ pub struct Commands<'a> {
 }
 
 impl<'a> Commands<'a> {
+    ghost use Rattle.commands.specs.Decoded.{widths};
     ghost use Rattle.program.specs.Commands.{left};
 
     pub fn new(bytes: &'a [u8]) -> Commands<'a>
         ensures bytes { result.bytes.now ≡ bytes.now }
         ensures all { left result ≡ commands_of bytes.now }
         ensures few { length (left result) ≤ length bytes.now }
+        ensures short { widths (left result) ≤ length bytes.now }
     {
         Commands { bytes }
-    }
-
-    // The bytes that are left.
-    pub fn rest(&self) -> &'a [u8]
-        ensures { result.now ≡ self.now.bytes.now }
-    {
-        self.bytes
     }
 }
 

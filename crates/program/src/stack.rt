@@ -1,37 +1,39 @@
-// A stack of at most 32 truth values in one number, the latest in its lowest bit.
-ghost use Rattle.std.specs.Prelude.{◌≡◌};
-ghost use Rattle.commands.specs.Stack.{push as pushed, top as latest, both as both_of, either as either_of, neither as neither_of};
+// The truth values of a formula.
+ghost use Rattle.std.specs.Prelude.{◌≡◌, ◌/◌, Bool};
+ghost use Rattle.commands.specs.Stack.{push as pushed, top as latest, neither as turned};
 
-pub(crate) fn push(stack: u32, value: bool) -> u32
-    ensures { result ≡ pushed stack value }
-{
-    let room = stack % 0x8000_0000 * 2;
-    if value { room + 1 } else { room }
-}
+// At most 32 values in one word, the latest in its lowest bit.
+#[derive(Clone, Copy)]
+pub(crate) struct Stack(u32);
 
-pub(crate) fn top(stack: u32) -> bool
-    ensures { result ≡ latest stack }
-{
-    stack % 2 == 1
-}
+impl Stack {
+    pub(crate) const EMPTY: Stack = Stack(0);
 
-// the latest two values joined by `and`
-pub(crate) fn both(stack: u32) -> u32
-    ensures { result ≡ both_of stack }
-{
-    push(stack / 4, top(stack / 2) && top(stack))
-}
+    pub(crate) fn push(self, value: bool) -> Stack
+        ensures { result.0 ≡ pushed self.0 value }
+    {
+        Stack(self.0 % 0x8000_0000 * 2 + u32::from(value))
+    }
 
-// the latest two values joined by `or`
-pub(crate) fn either(stack: u32) -> u32
-    ensures { result ≡ either_of stack }
-{
-    push(stack / 4, top(stack / 2) || top(stack))
-}
+    pub(crate) fn top(self) -> bool
+        ensures { result ≡ latest self.0 }
+    {
+        self.0 % 2 == 1
+    }
 
-// the latest value turned
-pub(crate) fn neither(stack: u32) -> u32
-    ensures { result ≡ neither_of stack }
-{
-    push(stack / 2, !top(stack))
+    // the latest two values as one
+    pub(crate) fn join<F: Fn(bool, bool) -> bool>(self, joined: F) -> Stack
+        requires { F.IsAlwaysCallable joined }
+        ensures { (value : Bool) × F.post joined (latest (self.0 / 2)) (latest self.0) value × (result.0 ≡ pushed (self.0 / 4) value) }
+    {
+        let value = joined(Stack(self.0 / 2).top(), self.top());
+        Stack(self.0 / 4).push(value)
+    }
+
+    // the latest value turned
+    pub(crate) fn turn(self) -> Stack
+        ensures { result.0 ≡ turned self.0 }
+    {
+        Stack(self.0 / 2).push(!self.top())
+    }
 }

@@ -1,5 +1,5 @@
 -- Each arm names its opcode.
-use Rattle.std.proofs.Common.{refl, rules}
+use Rattle.std.proofs.Common.{◌≡◌, ◌+◌, ◌*◌, get_or, refl, arith, rules}
 use Rattle.commands.specs.declared.command.Kind.TheVariants.{Root, Text, Element}
 use Rattle.commands.specs.declared.command.Atom.TheVariants.{Kind, Label, True, First, Next, Here}
 use Rattle.commands.specs.declared.command.Move.TheVariants.{Down, On, Stay, Mark}
@@ -17,7 +17,10 @@ pub returns-in-16-3 : goal.returns-in-16-3
 returns-in-16-3 c = kind_at 2 (Value (Kind Element)) c.args.bytes.now (search rules) (search rules) (search rules) (λ xs. refl)
 
 pub returns-in-17 : goal.returns-in-17
-returns-in-17 c = two_at 17 (λ x. Value (Label x)) c.args.bytes.now (search rules) (search rules) (λ xs. refl)
+returns-in-17 c =
+    let bs = c.args.bytes.now in
+    let label : c.from_be_bytes-label.result ≡ get_or bs 1 0 * 256 + get_or bs 2 0 = omega (arith, c.from_be_bytes-label.ensures) in
+    rw label (two_at 17 (λ x. Value (Label x)) bs (search rules) (search rules) (λ xs. refl))
 
 pub returns-in-19 : goal.returns-in-19
 returns-in-19 c = one_at 19 (λ p. Value (First p)) c.args.bytes.now (search rules) (search rules) (λ xs. refl)

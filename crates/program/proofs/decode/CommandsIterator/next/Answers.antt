@@ -1,5 +1,5 @@
 -- A command is taken off the front, and the rest spells the others.
-use Rattle.std.proofs.Common.{length, sym, ap, arith, rules}
+use Rattle.std.proofs.Common.{length, sym, ap, rules}
 use Rattle.commands.proofs.Spells.{commands_more, commands_none}
 use Rattle.program.proofs.decode.CommandsIterator.next.Goals as goal
 
