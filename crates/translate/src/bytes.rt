@@ -27,8 +27,9 @@ fn put_label(out: &mut [u8], at: usize, label: u16) -> usize
     requires { at + 3 ≤ length out.old }
     ensures { Adds out.old at out.new result (atom_bytes (Atom.Label label)) }
 {
-    let low = put_byte(out, at, (label % 256) as u8);
-    put_operand(out, low, 0x11, (label / 256) as u8)
+    let [high, low] = label.to_be_bytes();
+    let then = put_byte(out, at, low);
+    put_operand(out, then, 0x11, high)
 }
 
 fn put_atom(out: &mut [u8], at: usize, atom: Atom) -> usize

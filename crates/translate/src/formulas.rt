@@ -19,8 +19,7 @@ fn put_beginning(out: &mut [u8], at: usize, axis: Axis, state: u8) -> usize
 {
     match axis {
         Axis::SelfNode => put(out, at, Command::Value(Atom::Here(state))),
-        Axis::Child => put(out, at, Command::Value(Atom::First(state))),
-        Axis::Descendant => put(out, at, Command::Value(Atom::First(state))),
+        Axis::Child | Axis::Descendant => put(out, at, Command::Value(Atom::First(state))),
         Axis::FollowingSibling => put(out, at, Command::Value(Atom::Next(state))),
     }
 }

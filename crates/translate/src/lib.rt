@@ -40,9 +40,7 @@ fn put_outsides(query: &Query, names: &[Slot], out: &mut [u8], at: usize) -> usi
     ensures { Adds out.old at out.new result (states_code (outsides names.now (text_in query.now) query.now.table 0 query.now.table.outside_count)) }
 {
     let mut then = at;
-    let mut step = query.table.outside_count;
-    while step > 0 {
-        step -= 1;
+    for step in (0..query.table.outside_count).rev() {
         then = put_outside(query, names, out, then, step);
     }
     then
@@ -79,7 +77,7 @@ fn turn(out: &mut [u8], end: usize)
     requires { end ≤ length out.old }
     ensures { out.new ≡ reverse (take end out.old) ++ drop end out.old }
 {
-    out[0..end].reverse();
+    out[..end].reverse();
 }
 
 // Writes the program, where there is memory for any.

@@ -16,8 +16,7 @@ fn put_begin(out: &mut [u8], at: usize, axis: Axis, state: u8) -> usize
 {
     match axis {
         Axis::SelfNode => put(out, at, Command::Make(Move::Stay(state))),
-        Axis::Child => put(out, at, Command::Make(Move::Down(state))),
-        Axis::Descendant => put(out, at, Command::Make(Move::Down(state))),
+        Axis::Child | Axis::Descendant => put(out, at, Command::Make(Move::Down(state))),
         Axis::FollowingSibling => put(out, at, Command::Make(Move::On(state))),
     }
 }
@@ -51,13 +50,12 @@ fn put_keeping(out: &mut [u8], at: usize, axis: Axis, everywhere: u8, state: u8)
 {
     match axis {
         Axis::SelfNode => at,
-        Axis::Child => put_sideways(out, at, everywhere, state),
         Axis::Descendant => {
             let onward = put(out, at, Command::Make(Move::On(state)));
             let down = put_down(out, onward, state);
             put(out, down, Command::When(everywhere))
         }
-        Axis::FollowingSibling => put_sideways(out, at, everywhere, state),
+        Axis::Child | Axis::FollowingSibling => put_sideways(out, at, everywhere, state),
     }
 }
 
@@ -77,8 +75,7 @@ fn axis_before(table: &Table, state: u8) -> Axis
     if state == 0 {
         Axis::SelfNode
     } else {
-        let step = outside_step(table, state - 1);
-        step.axis
+        outside_step(table, state - 1).axis
     }
 }
 
@@ -105,9 +102,7 @@ pub(crate) fn put_states(table: &Table, out: &mut [u8], at: usize) -> usize
     ensures { Adds out.old at out.new result (rules_codes (sends table.now 0 (table.now.outside_count + 1))) }
 {
     let mut then = at;
-    let mut state = table.outside_count + 1;
-    while state > 0 {
-        state -= 1;
+    for state in (0..table.outside_count + 1).rev() {
         then = put_state(table, out, then, state);
     }
     then

@@ -108,13 +108,12 @@ fn put_looking(out: &mut [u8], at: usize, axis: Axis, state: u8) -> usize
 {
     match axis {
         Axis::SelfNode => at,
-        Axis::Child => put_onward(out, at, state),
         Axis::Descendant => {
             let joined = put(out, at, Command::Or);
             let onward = put_onward(out, joined, state);
             put(out, onward, Command::Value(Atom::First(state)))
         }
-        Axis::FollowingSibling => put_onward(out, at, state),
+        Axis::Child | Axis::FollowingSibling => put_onward(out, at, state),
     }
 }
 
