@@ -1,5 +1,5 @@
 -- A query's program has room in 2,048 bytes, and is a translation.
-use Rattle.std.proofs.Common.{◌≡◌, ℕ, ◌+◌, ◌≤◌, List, [], ◌∷◌, ◌++◌, reverse, length, take, drop, sym, refl, ap, ◌∙◌, arith, length-append}
+use Rattle.std.proofs.Common.{◌≡◌, ℕ, ◌+◌, ◌≤◌, List, [], ◌∷◌, ◌++◌, reverse, length, take, drop, sym, refl, ap, ◌∙◌, subst, arith, length-append}
 use lib.Seq.{take-append_seam, drop-append_seam}
 use Rattle.query.specs.declared.parsed.Query.{Query}
 use Rattle.query.proofs.Shown.{query_reads, query_shows}
@@ -15,6 +15,8 @@ use Rattle.translation.specs.Written.{states_code, rules_codes, Adds}
 use Rattle.translation.proofs.Says.{says_program}
 use Rattle.translation.proofs.Codes.{encoded_length}
 use Rattle.translation.proofs.States.{program_code}
+use Rattle.translate.specs.declared.bytes.Writer.{Writer}
+use Rattle.translate.specs.Writing.{Puts}
 use Rattle.translate.specs.Outcome.{text_in, path, Granted}
 
 module _ (names : Store) (q : Query) where
@@ -61,3 +63,18 @@ module _ (names : Store) (q : Query) where
       let s = short in
       let same : encoded (selection.translate names (path q)) ≡ take n end = sym (ap encoded program_is) ∙ sym front in
       record { few = omega arith; translation = (selection.translate names (path q), (translations_fit names (path q) limited, same), translates names (path q)); rest = back }
+
+-- what a writer wrote into an empty buffer, turned round
+pub granted : (names : Store) (q : Query) (w v : Writer) (out end : List ℕ) (n : ℕ) → w.out.now ≡ out → w.at ≡ 0 → Puts w v (encoded (program_of names (text_in q) q.table)) → n ≡ v.at
+    → end ≡ reverse (take v.at v.out.now) ++ drop v.at v.out.now → Granted names q out end n
+granted names q w v out end n o a p m e =
+    let bs = encoded (program_of names (text_in q) q.table) in
+    let adds : Adds out 0 v.out.now v.at bs = subst (λ x. Adds x 0 v.out.now v.at bs) o (subst (λ x. Adds w.out.now x v.out.now v.at bs) a p.adds) in
+    subst (λ x. Granted names q out end x) (sym m) (turned names q out v.out.now end v.at adds e)
+
+-- a query has few steps
+pub inside_few : (q : Query) → q.table.inside_count ≤ 23
+inside_few q = (good [] q).inside_few
+
+pub outside_few : (q : Query) → q.table.outside_count ≤ 16
+outside_few q = (good [] q).outside_few

@@ -1,25 +1,27 @@
 // From a query and a name store to the bytes of a program that marks what the query selects.
 #![tactic(auto)]
 
-ghost use Rattle.std.specs.Prelude.{◌≡◌, ◌+◌, ◌≤◌, ◌++◌, reverse, length, take, drop};
+ghost use Rattle.std.specs.Prelude.{◌≡◌, ◌≤◌, length};
 ghost use Rattle.commands.specs.Encoded.{encoded};
-ghost use Rattle.translation.specs.Table.{insides, outsides, Good, program_of};
-ghost use Rattle.translation.specs.Written.{Adds, states_code};
+ghost use Rattle.translation.specs.Written.{states_code};
 ghost use Rattle.translate.specs.Faults.{code_of};
-ghost use Rattle.translate.specs.Outcome.{text_in, Granted, Translated};
+ghost use Rattle.translate.specs.Outcome.{Granted, Translated};
+ghost use Rattle.translate.specs.Writing.{HasRoom, Puts, insides_of, outsides_of, program_in};
 
 mod bytes;
 pub mod fault;
 mod formulas;
 mod moves;
+mod query_rows;
 mod steps;
 
-use bytes::put;
+use bytes::Writer;
 use commands::command::{Atom, Command};
 use fault::Fault;
 use moves::put_states;
 use names::slot::Slot;
 use query::parsed::Query;
+use query_rows::Rows;
 use steps::{put_inside, put_outside};
 
 impl Fault {
@@ -34,50 +36,36 @@ impl Fault {
 }
 
 // The states of the steps outside brackets, in order.
-fn put_outsides(query: &Query, names: &[Slot], out: &mut [u8], at: usize) -> usize
-    requires good { Good (text_in query.now) query.now.table }
-    requires room { at + length (states_code (outsides names.now (text_in query.now) query.now.table 0 query.now.table.outside_count)) ≤ length out.old }
-    ensures { Adds out.old at out.new result (states_code (outsides names.now (text_in query.now) query.now.table 0 query.now.table.outside_count)) }
+fn put_outsides(rows: &Rows<'_>, out: &mut Writer<'_>)
+    requires { HasRoom out.old (length (states_code (outsides_of rows.now))) }
+    ensures { Puts out.old out.new (states_code (outsides_of rows.now)) }
 {
-    let mut then = at;
-    for step in (0..query.table.outside_count).rev() {
-        then = put_outside(query, names, out, then, step);
+    for step in (0..rows.query.table.outside_count).rev() {
+        put_outside(rows, out, step);
     }
-    then
 }
 
 // The states of the steps in brackets, those of the last step first.
-fn put_insides(query: &Query, names: &[Slot], out: &mut [u8], at: usize) -> usize
-    requires good { Good (text_in query.now) query.now.table }
-    requires room { at + length (states_code (insides names.now (text_in query.now) query.now.table 0 query.now.table.inside_count)) ≤ length out.old }
-    ensures { Adds out.old at out.new result (states_code (insides names.now (text_in query.now) query.now.table 0 query.now.table.inside_count)) }
+fn put_insides(rows: &Rows<'_>, out: &mut Writer<'_>)
+    requires { HasRoom out.old (length (states_code (insides_of rows.now))) }
+    ensures { Puts out.old out.new (states_code (insides_of rows.now)) }
 {
-    let mut then = at;
-    for step in 0..query.table.inside_count {
-        then = put_inside(query, names, out, then, step);
+    for step in 0..rows.query.table.inside_count {
+        put_inside(rows, out, step);
     }
-    then
 }
 
 // Writes the whole program from its end on.
-fn put_program(query: &Query, names: &[Slot], out: &mut [u8]) -> usize
-    requires { 2048 ≤ length out.old }
-    ensures { Adds out.old 0 out.new result (encoded (program_of names.now (text_in query.now) query.now.table)) }
+fn put_program(rows: &Rows<'_>, out: &mut Writer<'_>)
+    requires { HasRoom out.old 2048 }
+    ensures { Puts out.old out.new (encoded (program_in rows.now)) }
 {
-    let ended = put(out, 0, Command::End);
-    let sent = put_states(&query.table, out, ended);
-    let matched = put_outsides(query, names, out, sent);
-    let defined = put(out, matched, Command::Define);
-    let always = put(out, defined, Command::Value(Atom::True));
-    put_insides(query, names, out, always)
-}
-
-// Turns the first `end` bytes round.
-fn turn(out: &mut [u8], end: usize)
-    requires { end ≤ length out.old }
-    ensures { out.new ≡ reverse (take end out.old) ++ drop end out.old }
-{
-    out[..end].reverse();
+    out.put(Command::End);
+    put_states(rows.query, out);
+    put_outsides(rows, out);
+    out.put(Command::Define);
+    out.put(Command::Value(Atom::True));
+    put_insides(rows, out);
 }
 
 // Writes the program, where there is memory for any.
@@ -85,9 +73,9 @@ fn write_program(query: &Query, names: &[Slot], out: &mut [u8]) -> usize
     requires { 2048 ≤ length out.old }
     ensures { Granted names.now query.now out.old out.new result }
 {
-    let end = put_program(query, names, out);
-    turn(out, end);
-    end
+    let mut writer = Writer::new(out);
+    put_program(&Rows { query, names }, &mut writer);
+    writer.finish()
 }
 
 // Translates the query for trees whose labels the store names: writes the bytes of a program that marks exactly what the

@@ -4,7 +4,8 @@ use Rattle.query.specs.declared.table.Shape.{Shape}
 use Rattle.query.specs.declared.table.Shape.TheVariants as shape
 use Rattle.query.specs.Shown.{predicate_at}
 use Rattle.translation.specs.Table.{said, Reaching}
-use Rattle.translation.specs.Written.{code, Remains}
+use Rattle.translation.specs.Written.{code}
+use Rattle.translate.specs.Writing.{Leaves}
 use Rattle.translate.proofs.formulas.+put_conjunction_put_member_put_predicate.Given as goal
 
 -- a predicate hands a row on to the conjunctions unless it is an `or`, which comes back
@@ -20,25 +21,25 @@ abbrev pub decreases-put_predicate : goal.decreases-put_predicate
 decreases-put_predicate l = 3 * l.index + 1
 
 abbrev pub decreases-put_conjunction : goal.decreases-put_conjunction
-decreases-put_conjunction l = weight l.table.now l.index
+decreases-put_conjunction l = weight l.query.now.table l.index
 
 abbrev pub decreases-put_member : goal.decreases-put_member
 decreases-put_member l = 3 * l.index + 2
 
 abbrev pub invariant-put_predicate-loop-first : goal.invariant-put_predicate-loop-first
 invariant-put_predicate-loop-first l =
-    Reaching l.table l.left
+    Reaching l.query.table l.left
     × (l.left ≤ l.index)
-    × Remains (code (said l.table l.index)) l.initial.out l.at (code (said l.table l.left)) l.out l.then
+    × Leaves (code (said l.query.table l.index)) l.initial.out (code (said l.query.table l.left)) l.out
 
 abbrev pub decreases-put_predicate-loop-first : goal.decreases-put_predicate-loop-first
 decreases-put_predicate-loop-first l = l.left
 
 abbrev pub invariant-put_conjunction-loop-step : goal.invariant-put_conjunction-loop-step
 invariant-put_conjunction-loop-step l =
-    Reaching l.table l.left
-    × (weight l.table l.left ≤ weight l.table l.index)
-    × Remains (code (said l.table l.index)) l.initial.out l.at (code (said l.table l.left)) l.out l.then
+    Reaching l.query.table l.left
+    × (weight l.query.table l.left ≤ weight l.query.table l.index)
+    × Leaves (code (said l.query.table l.index)) l.initial.out (code (said l.query.table l.left)) l.out
 
 abbrev pub decreases-put_conjunction-loop-step : goal.decreases-put_conjunction-loop-step
 decreases-put_conjunction-loop-step l = l.left

@@ -1,5 +1,5 @@
-use Rattle.translation.proofs.Written.{adds_more}
+use Rattle.translate.proofs.Writing.{puts_more}
 use Rattle.translate.proofs.steps.put_named.Goals as goal
 
 pub returns : goal.returns
-returns c = adds_more (adds_more c.put-joined.ensures c.put-labelled.ensures) c.put_element.ensures
+returns c = puts_more (puts_more c.put.ensures c.put-2.ensures) c.put_element.ensures

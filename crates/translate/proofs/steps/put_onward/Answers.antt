@@ -1,5 +1,5 @@
-use Rattle.translation.proofs.Written.{adds_more}
+use Rattle.translate.proofs.Writing.{puts_more}
 use Rattle.translate.proofs.steps.put_onward.Goals as goal
 
 pub returns : goal.returns
-returns c = adds_more c.put-joined.ensures c.put.ensures
+returns c = puts_more c.put.ensures c.put-2.ensures

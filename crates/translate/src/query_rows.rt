@@ -1,0 +1,9 @@
+// The rows of a query, with the store that gives its names their labels.
+use names::slot::Slot;
+use query::parsed::Query;
+
+#[derive(Clone, Copy)]
+pub(crate) struct Rows<'a> {
+    pub(crate) query: &'a Query,
+    pub(crate) names: &'a [Slot],
+}
