@@ -2,11 +2,14 @@
 #![tactic(auto)]
 
 ghost use Rattle.std.specs.Prelude.{◌≡◌, ℕ, ◌<◌, List, replicate, Some, None, Decides, slice_index_or, slice_set};
-ghost use Rattle.memo.specs.Places.{Finds};
+ghost use Rattle.std.proofs.Common.{rules};
+ghost use Rattle.memo.specs.Places.{Finds, Recalls};
 ghost use Rattle.memo.specs.Spread.{spread as spread_of};
 
+use std::marker::Model;
+
 // What an answer is kept under.
-pub trait Key: Copy + Drop {
+pub trait Key: Copy + Drop + Eq {
     // the place of a key's answer
     ghost place: { Self → ℕ };
 
@@ -14,8 +17,8 @@ pub trait Key: Copy + Drop {
         ensures exact { result ≡ place self }
         ensures within { result < 16 };
 
-    fn same(self, other: Self) -> bool
-        ensures { Decides result (self ≡ other) };
+    // keys are equal exactly where they are the same
+    ghost same: { (a b : Self) → Decides (Self.eq a b) (a ≡ b) };
 }
 
 // Spreads words over the sixteen places.
@@ -29,12 +32,10 @@ pub fn spread(word: u64) -> usize
 impl Key for u64 {
     ghost place = { spread_of };
 
+    ghost same = { Prim.search rules };
+
     fn place(self) -> usize {
         spread(self)
-    }
-
-    fn same(self, other: u64) -> bool {
-        self == other
     }
 }
 
@@ -63,14 +64,8 @@ impl<K: Key, V: Copy + Drop> Memo<K, V> {
     {
         let kept = self.places[key.place()];
         match kept {
-            Some(known) => {
-                if key.same(known.key) {
-                    Some(known.value)
-                } else {
-                    None
-                }
-            }
-            None => None,
+            Some(known) if known.key == key => Some(known.value),
+            _ => None,
         }
     }
 
@@ -79,5 +74,58 @@ impl<K: Key, V: Copy + Drop> Memo<K, V> {
         ensures { self.new.places ≡ slice_set self.old.places (K.place key) (Some (record { key = key; value = value })) }
     {
         self.places[key.place()] = Some(Known { key, value });
+    }
+}
+
+// What gives one answer for each key.
+pub trait Computation {
+    type Key: Key;
+
+    type Value: Copy + Drop;
+
+    // the answer for a key
+    ghost answer: { Self → Self.Key → Self.Value };
+
+    fn compute(&self, key: Self::Key) -> Self::Value
+        ensures { result ≡ answer self.now key };
+}
+
+// A computation, with a memory of answers that it gave: a contract sees the computation alone.
+#[derive(Drop)]
+pub struct Recalling<C: Computation + Drop> {
+    computation: C,
+    memo: Memo<C::Key, C::Value>,
+}
+
+impl<C: Computation + Drop> Model for Recalling<C> {
+    ghost Value = { C };
+
+    ghost view = { λ r. r.computation };
+
+    ghost invariant = { λ r. Recalls (λ k v. v ≡ C.answer r.computation k) r.memo.places };
+}
+
+impl<C: Computation + Drop> Recalling<C> {
+    // The computation, with no answer given yet.
+    pub fn new(computation: C) -> Recalling<C>
+        ensures { result ≡ computation }
+    {
+        Recalling {
+            computation,
+            memo: Memo::new(),
+        }
+    }
+
+    // The answer for the key, computed only where it is not in memory.
+    pub fn recall(&mut self, key: C::Key) -> C::Value
+        ensures answer { result ≡ C.answer self.old key }
+        ensures same { self.new ≡ self.old }
+    {
+        if let Some(value) = self.memo.find(key) {
+            return value;
+        }
+        let value = self.computation.compute(key);
+        self.memo.keep(key, value);
+        value
     }
 }

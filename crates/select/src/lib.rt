@@ -15,6 +15,7 @@ use query::parsed::Query;
 use selector::selector::Selector;
 use settle::settle;
 use tally::Tally;
+use tallying::lies_in;
 use translate::translate;
 use tree::Tree;
 
@@ -31,6 +32,19 @@ impl Fault {
     }
 }
 
+// Whether there are bytes for any program, and a word for each of so many nodes.
+fn has_room(count: usize, program: &[u8], work: &[u64]) -> Result<(), Fault>
+    ensures { result ≡ answered (prepare_refusal count (length program.now) (length work.now)) }
+{
+    if program.len() < 2048 {
+        return Err(Fault::Memory);
+    }
+    if work.len() < count {
+        return Err(Fault::SmallWork);
+    }
+    Ok(())
+}
+
 // Translates a query, loads the translation and sweeps over all nodes of a tree. Every tally of a span in the tree is then
 // granted and tells of the nodes of the span that the query selects. A refusal changes nothing.
 pub fn prepare<T: Tree>(
@@ -44,17 +58,9 @@ pub fn prepare<T: Tree>(
     ensures answer { result ≡ answered (prepare_refusal (count_of (T.rows tree.now)) (length program.old) (length work.old)) }
     ensures leaves { Prepares (prepare_refusal (count_of (T.rows tree.now)) (length program.old) (length work.old)) names.now query.now (T.rows tree.now) program.old program.new (state_of selector.old) (state_of selector.new) work.old work.new }
 {
-    if program.len() < 2048 {
-        return Err(Fault::Memory);
-    }
-    if work.len() < tree.count() {
-        return Err(Fault::SmallWork);
-    }
-    let size = match translate(query, names, program) {
-        Ok(size) => size,
-        Err(_) => return unreachable(),
-    };
-    let _ = settle(selector, tree, &program[0..size], work);
+    has_room(tree.count(), program, work)?;
+    let size = translate(query, names, program).unwrap();
+    settle(selector, tree, &program[0..size], work).unwrap();
     Ok(())
 }
 
@@ -72,19 +78,11 @@ pub fn select<T: Tree, K: Tally + Drop>(
     ensures answer { elim result [ Ok k ↦ (select_refusal (count_of (T.rows tree.now)) (length program.old) (length work.old) lo hi ≡ None) × Tells K.empty K.mark K.join names.now query.now (T.rows tree.now) lo hi (K.value k) | Err f ↦ select_refusal (count_of (T.rows tree.now)) (length program.old) (length work.old) lo hi ≡ Some f ] }
     ensures leaves { Prepares (select_refusal (count_of (T.rows tree.now)) (length program.old) (length work.old) lo hi) names.now query.now (T.rows tree.now) program.old program.new (state_of selector.old) (state_of selector.new) work.old work.new }
 {
-    if program.len() < 2048 {
-        return Err(Fault::Memory);
-    }
-    let n = tree.count();
-    if work.len() < n {
-        return Err(Fault::SmallWork);
-    }
-    if lo > hi || hi > n {
+    let count = tree.count();
+    has_room(count, program, work)?;
+    if !lies_in(lo, hi, count) {
         return Err(Fault::NoSpan);
     }
-    let _ = prepare(selector, query, names, tree, program, work);
-    match selector.tally(tree, work, lo, hi) {
-        Ok(tally) => Ok(tally),
-        Err(_) => unreachable(),
-    }
+    prepare(selector, query, names, tree, program, work)?;
+    Ok(selector.tally(tree, work, lo, hi).unwrap())
 }

@@ -1,12 +1,13 @@
 // What each call does, by the phase and the call together.
-ghost use Rattle.std.specs.Prelude.{◌≡◌, [], length, take};
+ghost use Rattle.std.specs.Prelude.{◌≡◌, true, [], length, take};
 ghost use Rattle.rows.specs.Rows.{count_of};
 ghost use Rattle.commands.specs.Commands.{commands_of};
 ghost use Rattle.commands.specs.Rules.{after_deciding};
 ghost use Rattle.tally.specs.Monoid.{marks_of};
 ghost use Rattle.selector.specs.Calls.Call.{load as load_call, rise as rise_call, fall as fall_call, tally as tally_call};
 ghost use Rattle.selector.specs.Codes.{code_of};
-ghost use Rattle.selector.specs.Steps.{State, state_of, fresh, refusal, outcome, left_over, state_after, words_after, valued, told_nodes};
+ghost use Rattle.selector.specs.declared.fault.Fault.TheVariants.{Program};
+ghost use Rattle.selector.specs.Steps.{State, state_of, fresh, refusal, unready, outcome, left_over, state_after, words_after, valued, told_nodes};
 
 use crate::falling::fall_over;
 use crate::fault::Fault;
@@ -15,6 +16,7 @@ use crate::phase::Phase;
 use crate::rising::rise_over;
 use crate::selector::Selector;
 use program::check::check;
+use program::fault::Fault as ProgramFault;
 use program::rules::rules_start;
 use tally::Tally;
 use tallying::lies_in;
@@ -52,14 +54,28 @@ impl Selector {
         ensures answer { result ≡ outcome (refusal (state_of self.old) (count_of (T.rows tree.now)) 0 (load_call program.now)) tt }
         ensures state { state_of self.new ≡ state_after (T.rows tree.now) (state_of self.old) [] (load_call program.now) }
     {
-        if let Err(fault) = check(program) {
-            return Err(Fault::Program(fault));
-        }
+        check(program)?;
         self.program[0..program.len()].copy_from_slice(program);
         self.len = program.len();
         self.rules = rules_start(program);
         self.count = tree.count();
         self.phase = Phase::Rising { left: self.count };
+        Ok(())
+    }
+
+    // Whether a program is loaded, for this tree, and the work area has a word a node.
+    fn ready<T: Tree>(&self, tree: &T, work: &[u64]) -> Result<(), Fault>
+        ensures { result ≡ outcome (unready (state_of self.now) (count_of (T.rows tree.now)) (length work.now) true) tt }
+    {
+        if self.phase == Phase::Empty {
+            return Err(Fault::NoProgram);
+        }
+        if tree.count() != self.count {
+            return Err(Fault::OtherTree);
+        }
+        if work.len() < self.count {
+            return Err(Fault::SmallWork);
+        }
         Ok(())
     }
 
@@ -69,15 +85,7 @@ impl Selector {
         ensures state { state_of self.new ≡ state_after (T.rows tree.now) (state_of self.old) work.old (rise_call k) }
         ensures words { work.new ≡ words_after (T.rows tree.now) (state_of self.old) work.old (rise_call k) }
     {
-        if let Phase::Empty = self.phase {
-            return Err(Fault::NoProgram);
-        }
-        if tree.count() != self.count {
-            return Err(Fault::OtherTree);
-        }
-        if work.len() < self.count {
-            return Err(Fault::SmallWork);
-        }
+        self.ready(tree, work)?;
         match self.phase {
             Phase::Rising { left } => {
                 let stop = left.saturating_sub(k);
@@ -99,25 +107,17 @@ impl Selector {
         ensures state { state_of self.new ≡ state_after (T.rows tree.now) (state_of self.old) work.old (fall_call k) }
         ensures words { work.new ≡ words_after (T.rows tree.now) (state_of self.old) work.old (fall_call k) }
     {
-        if let Phase::Empty = self.phase {
-            return Err(Fault::NoProgram);
-        }
-        if tree.count() != self.count {
-            return Err(Fault::OtherTree);
-        }
-        if work.len() < self.count {
-            return Err(Fault::SmallWork);
-        }
+        self.ready(tree, work)?;
         let Phase::Falling { next } = self.phase else {
             return Err(Fault::WrongPhase);
         };
         let left = (self.count - next).saturating_sub(k);
         fall_over(tree, self.sending(), next, self.count - left, work);
-        if left == 0 {
-            self.phase = Phase::Settled;
+        self.phase = if left == 0 {
+            Phase::Settled
         } else {
-            self.phase = Phase::Falling { next: next + k };
-        }
+            Phase::Falling { next: next + k }
+        };
         Ok(left)
     }
 
@@ -131,15 +131,7 @@ impl Selector {
     ) -> Result<K, Fault>
         ensures { valued K.value result ≡ outcome (refusal (state_of self.now) (count_of (T.rows tree.now)) (length work.now) (tally_call lo hi)) (marks_of K.empty K.mark K.join (told_nodes (state_of self.now) work.now lo hi)) }
     {
-        if let Phase::Empty = self.phase {
-            return Err(Fault::NoProgram);
-        }
-        if tree.count() != self.count {
-            return Err(Fault::OtherTree);
-        }
-        if work.len() < self.count {
-            return Err(Fault::SmallWork);
-        }
+        self.ready(tree, work)?;
         let Phase::Settled = self.phase else {
             return Err(Fault::WrongPhase);
         };
@@ -147,6 +139,14 @@ impl Selector {
             return Err(Fault::NoSpan);
         }
         Ok(join_marks(self.sending(), work, lo, hi))
+    }
+}
+
+impl From<ProgramFault> for Fault {
+    ghost from_gives = { λ refusal fault. fault ≡ Program refusal };
+
+    fn from(refusal: ProgramFault) -> Fault {
+        Fault::Program(refusal)
     }
 }
 

@@ -1,15 +1,12 @@
 // The sending states, from the first node up.
 ghost use Rattle.std.specs.Prelude.{◌≡◌, ◌-◌, ◌<◌, ◌≤◌, false, length, nat_le};
-ghost use Rattle.memo.specs.Places.{Recalls};
-ghost use Rattle.rows.specs.Answers.{first_of, next_of};
 ghost use Rattle.commands.specs.Commands.{commands_of};
 ghost use Rattle.sweep.specs.Falling.{acting, sent, place_at, fallen};
 ghost use Rattle.sweep.specs.Sending.{nothing_sent, with_move, sending as sending_of, entered_all, delivered};
-ghost use Rattle.selector.specs.Recalled.{Sends};
 
 use commands::command::{Command, Move};
-use memo::Memo;
-use program::decode::take_command;
+use memo::{Computation, Recalling};
+use program::decode::Commands;
 use sweep::sending::Sending;
 use tree::Tree;
 use words::{has_bit, set_bit};
@@ -19,19 +16,16 @@ fn with_move(step: Move, sent: Sending) -> Sending
 {
     match step {
         Move::Down(q) => Sending {
-            here: sent.here,
             down: set_bit(sent.down, 40 + q as usize),
-            on: sent.on,
+            ..sent
         },
         Move::On(q) => Sending {
-            here: sent.here,
-            down: sent.down,
             on: set_bit(sent.on, 40 + q as usize),
+            ..sent
         },
         Move::Stay(q) => Sending {
             here: set_bit(sent.here, 40 + q as usize),
-            down: sent.down,
-            on: sent.on,
+            ..sent
         },
         Move::Mark => sent,
     }
@@ -56,7 +50,6 @@ pub(crate) fn is_entered(word: u64) -> bool
 fn sending(rules: &[u8], word: u64) -> Sending
     ensures { result ≡ sending_of word (commands_of rules.now) 0 false nothing_sent }
 {
-    let mut bytes = rules;
     let mut state: usize = 0;
     let mut active = false;
     let mut sent = Sending {
@@ -64,86 +57,79 @@ fn sending(rules: &[u8], word: u64) -> Sending
         down: 0,
         on: 0,
     };
-    while let Some((command, rest)) = take_command(bytes) {
+    for command in Commands::new(rules) {
         match command {
             Command::When(p) => active = acts(word | sent.here, state, p),
-            Command::Make(step) => {
-                if active {
-                    sent = with_move(step, sent);
-                }
-            }
+            Command::Make(step) if active => sent = with_move(step, sent),
+            Command::Make(_) => {}
             Command::Done => {
                 state += 1;
                 active = false;
             }
             _ => return sent,
         }
-        bytes = rest;
     }
     sent
 }
 
-// What a node of the word sends, from memory if such a node was met lately.
-fn recalled_sending(rules: &[u8], memo: &mut Memo<u64, Sending>, word: u64) -> Sending
-    requires { Recalls (Sends (commands_of rules.now)) memo.old.places }
-    ensures sent { Sends (commands_of rules.now) word result }
-    ensures memo { Recalls (Sends (commands_of rules.now)) memo.new.places }
-{
-    if let Some(sent) = memo.find(word) {
-        return sent;
+// What nodes send, by their words.
+#[derive(Clone, Copy)]
+struct Sendings<'a> {
+    rules: &'a [u8],
+}
+
+impl Computation for Sendings<'_> {
+    type Key = u64;
+
+    type Value = Sending;
+
+    ghost answer = { λ s word. sending_of word (commands_of s.rules.now) 0 false nothing_sent };
+
+    fn compute(&self, word: u64) -> Sending {
+        sending(self.rules, word)
     }
-    let sent = sending(rules, word);
-    memo.keep(word, sent);
-    sent
 }
 
 // The states enter the node, where there is one.
 fn enter(states: u64, node: Option<usize>, work: &mut [u64])
     ensures { work.new ≡ entered_all states node work.old }
 {
-    if let Some(w) = node {
-        if w < work.len() {
-            work[w] |= states;
-        }
+    // `get_mut` says nothing of what the slice is after a write
+    if let Some(w) = node
+        && w < work.len()
+    {
+        work[w] |= states;
     }
 }
 
-// The states enter the first child of v; where there are none, the tree is not asked.
-fn enter_first<T: Tree>(tree: &T, v: usize, states: u64, work: &mut [u64])
-    ensures { work.new ≡ entered_all states (first_of (T.rows tree.now) v) work.old }
-{
-    if states != 0 {
-        enter(states, tree.first_child(v), work);
+// A fall over a tree, with what nodes sent whose words were met lately.
+#[derive(Drop)]
+struct Fall<'a, T> {
+    tree: &'a T,
+    sendings: Recalling<Sendings<'a>>,
+}
+
+impl<T: Tree> Fall<'_, T> {
+    // Delivers what node v sends: a node that nothing is sent to is not asked for.
+    fn deliver(&self, v: usize, sent: Sending, work: &mut [u64])
+        ensures { work.new ≡ delivered (place_at (T.rows self.now.tree.now) v) sent work.old }
+    {
+        let first = (sent.down != 0).then(|| self.tree.first_child(v));
+        let next = (sent.on != 0).then(|| self.tree.next_sibling(v));
+        enter(sent.here, Some(v), work);
+        enter(sent.down, first.flatten(), work);
+        enter(sent.on, next.flatten(), work);
     }
-}
 
-// likewise for the next sibling
-fn enter_next<T: Tree>(tree: &T, v: usize, states: u64, work: &mut [u64])
-    ensures { work.new ≡ entered_all states (next_of (T.rows tree.now) v) work.old }
-{
-    if states != 0 {
-        enter(states, tree.next_sibling(v), work);
+    // Makes the moves of the states that enter node v, from the first state up.
+    fn send(&mut self, v: usize, work: &mut [u64])
+        requires { v < length work.old }
+        ensures words { work.new ≡ sent (place_at (T.rows self.old.tree.now) v) (commands_of self.old.sendings.rules.now) 0 false work.old }
+        ensures same { self.new ≡ self.old }
+    {
+        let sent = self.sendings.recall(work[v]);
+        self.deliver(v, sent, work);
     }
-}
-
-// Delivers what node v sends.
-fn deliver<T: Tree>(tree: &T, v: usize, sent: Sending, work: &mut [u64])
-    ensures { work.new ≡ delivered (place_at (T.rows tree.now) v) sent work.old }
-{
-    enter(sent.here, Some(v), work);
-    enter_first(tree, v, sent.down, work);
-    enter_next(tree, v, sent.on, work);
-}
-
-// Makes the moves of the states that enter node v, from the first state up.
-fn send<T: Tree>(rules: &[u8], tree: &T, memo: &mut Memo<u64, Sending>, v: usize, work: &mut [u64])
-    requires within { v < length work.old }
-    requires memo { Recalls (Sends (commands_of rules.now)) memo.old.places }
-    ensures words { work.new ≡ sent (place_at (T.rows tree.now) v) (commands_of rules.now) 0 false work.old }
-    ensures memo { Recalls (Sends (commands_of rules.now)) memo.new.places }
-{
-    let sent = recalled_sending(rules, memo, work[v]);
-    deliver(tree, v, sent, work);
 }
 
 // Falls over the nodes from lo to hi minus 1, the first first.
@@ -151,10 +137,13 @@ pub(crate) fn fall_over<T: Tree>(tree: &T, rules: &[u8], lo: usize, hi: usize, w
     requires { (lo ≤ hi) × (hi ≤ length work.old) }
     ensures { work.new ≡ fallen (T.rows tree.now) (commands_of rules.now) lo (hi - lo) work.old }
 {
-    let mut memo = Memo::new();
+    let mut fall = Fall {
+        tree,
+        sendings: Recalling::new(Sendings { rules }),
+    };
     for v in lo..hi {
         if is_entered(work[v]) {
-            send(rules, tree, &mut memo, v, work);
+            fall.send(v, work);
         }
     }
 }

@@ -1,6 +1,6 @@
 -- A load, a rise and a fall over all nodes settle a selector.
-use Rattle.std.proofs.Common.{◌≡◌, ℕ, ◌+◌, ◌-◌, ◌<◌, ◌≤◌, Bool, true, false, cond, eqb, leb, List, [], length, Some, None, Ok, Err, Option, Result, refl, ap, ◌∙◌, arith}
-use Rattle.std.proofs.lemmas.Bool.{eq-eqb, le-leb, lt-leb}
+use Rattle.std.proofs.Common.{◌≡◌, ℕ, ◌+◌, ◌-◌, ◌≤◌, Bool, true, false, cond, eqb, leb, List, [], length, Some, None, Ok, Err, Option, Result, refl, ap, ◌∙◌, arith}
+use Rattle.std.proofs.lemmas.Bool.{eq-eqb, le-leb}
 use Rattle.program.specs.declared.fault.Fault.{Fault as BrokenFault}
 use Rattle.program.specs.declared.fault.Fault.TheVariants.{Broken}
 use Rattle.rows.specs.Rows.{Row, count_of, Lawful}
@@ -22,7 +22,7 @@ use Rattle.selector.specs.declared.fault.Fault.{Fault}
 use Rattle.selector.specs.declared.fault.Fault.TheVariants.{SmallWork}
 use Rattle.selector.specs.declared.phase.Phase.TheVariants.{Rising, Falling, Settled}
 use Rattle.selector.specs.Calls.{load, rise, fall}
-use Rattle.selector.specs.Steps.{State, refusal, unless_so, before, granted_or, moved, rewritten, state_after, words_after}
+use Rattle.selector.specs.Steps.{State, refusal, unless_so, before, outcome, granted_or, moved, rewritten, state_after, words_after}
 use Rattle.history.specs.History.{Progress}
 use Rattle.history.proofs.Stages.{mk, rules, unready_is, SettledSo}
 use Rattle.history.proofs.Laws.{selected, due_none}
@@ -33,13 +33,15 @@ granted_is : {A : Type 0} (o : Option Fault) (old new : A) → o ≡ None → gr
 granted_is (Some f) old new e = let z : ◌≡◌ {A = ℕ} 0 1 = cc in absurd (omega arith)
 granted_is None old new e = refl
 
--- bytes that the check refuses, or takes
-pub bad_so : (t : Bool) (f : BrokenFault) → ◌≡◌ {A = Result (Unit {0}) BrokenFault} (Err f) (cond t (Ok tt) (Err Broken)) → (t ≡ false) × (f ≡ Broken)
-bad_so true f e = let z : ◌≡◌ {A = ℕ} 0 1 = cc in absurd (omega arith)
-bad_so false f e = (refl, cc)
+-- bytes that the check takes
+pub ok_so : (t : Bool) (u : Unit {0}) → ◌≡◌ {A = Result (Unit {0}) BrokenFault} (Ok u) (cond t (Ok tt) (Err Broken)) → t ≡ true
+ok_so true u e = refl
+ok_so false u e = let z : ◌≡◌ {A = ℕ} 0 1 = cc in absurd (omega arith)
 
-pub some_none : (o : Option Fault) (f : Fault) → o ≡ Some f → o ≡ None → ⊥
-some_none o f p q = let z : ◌≡◌ {A = ℕ} 0 1 = cc in omega arith
+-- a granted call does not err
+pub granted_so : {A : Type 0} (r : Result A Fault) (o : Option Fault) (a : A) (f : Fault) → r ≡ outcome o a → o ≡ None → r ≡ Err f → ⊥
+granted_so r (Some e) a f p q w = let z : ◌≡◌ {A = ℕ} 0 1 = cc in omega arith
+granted_so r None a f p q w = let z : ◌≡◌ {A = ℕ} 0 1 = cc in omega arith
 
 module _ (rows : List Row) (b : List ℕ) where
   load_leaves : (s : State) (ws : List ℕ) → accepted b ≡ true → state_after rows s ws (load b) ≡ mk b (count_of rows) (Rising (count_of rows))
@@ -94,20 +96,22 @@ module _ (rows : List Row) (b : List ℕ) where
         f3 ∙ ap (λ (x : State). words_after rows x w2 (fall (count_of rows))) a2 ∙ ap (λ (l : List ℕ). words_after rows (mk b (count_of rows) (Falling 0)) l (fall (count_of rows))) b2 ∙ fall_words up long,
       )
 
+  -- the rise and the fall are granted
+  pub rise_granted : (s s1 : State) (ws : List ℕ) → accepted b ≡ true → count_of rows ≤ length ws → s1 ≡ state_after rows s [] (load b) → refusal s1 (count_of rows) (length ws) (rise (count_of rows)) ≡ None
+  rise_granted s s1 ws ok fit e1 = ap (λ (x : State). refusal x (count_of rows) (length ws) (rise (count_of rows))) (e1 ∙ load_leaves s [] ok) ∙ rise_asks ws fit
+
+  pub fall_granted : (s s1 s2 : State) (ws w2 : List ℕ) → accepted b ≡ true → count_of rows ≤ length ws → s1 ≡ state_after rows s [] (load b) → s2 ≡ state_after rows s1 ws (rise (count_of rows))
+      → length w2 ≡ length ws → refusal s2 (count_of rows) (length w2) (fall (count_of rows)) ≡ None
+  fall_granted s s1 s2 ws w2 ok fit e1 e2 same =
+      ap (λ (x : State). refusal x (count_of rows) (length w2) (fall (count_of rows)))
+      (e2 ∙ ap (λ (x : State). state_after rows x ws (rise (count_of rows))) (e1 ∙ load_leaves s [] ok) ∙ rise_leaves ws fit)
+      ∙ fall_asks w2 (omega arith)
+
   -- granted
   pub asks_none : (ws : List ℕ) → accepted b ≡ true → count_of rows ≤ length ws → settle_refusal rows b ws ≡ None
   asks_none ws ok fit =
       ap (λ (t : Bool). before (unless_so t bad_program) (unless_so (leb (count_of rows) (length ws)) SmallWork)) ok
       ∙ ap (λ (t : Bool). unless_so t SmallWork) (le-leb (count_of rows) (length ws) fit)
-
-  -- refused by the program, or else by the work area
-  pub asks_program : (ws : List ℕ) → accepted b ≡ false → settle_refusal rows b ws ≡ Some bad_program
-  asks_program ws bad = ap (λ (t : Bool). before (unless_so t bad_program) (unless_so (leb (count_of rows) (length ws)) SmallWork)) bad
-
-  pub asks_work : (ws : List ℕ) → accepted b ≡ true → length ws < count_of rows → settle_refusal rows b ws ≡ Some SmallWork
-  asks_work ws ok few =
-      ap (λ (t : Bool). before (unless_so t bad_program) (unless_so (leb (count_of rows) (length ws)) SmallWork)) ok
-      ∙ ap (λ (t : Bool). unless_so t SmallWork) (lt-leb (count_of rows) (length ws) few)
 
   -- what settled words mean
   full : Progress

@@ -26,15 +26,13 @@ pub fn settle<T: Tree>(
     ensures words { work.new ≡ settled_words (T.rows tree.now) program.now work.old }
     ensures ready { (names : Store) (q : Path) → Translation names q program.now → settle_refusal (T.rows tree.now) program.now work.old ≡ None → Ready names q (T.rows tree.now) (state_of selector.new) work.new }
 {
-    if let Err(fault) = check(program) {
-        return Err(Fault::Program(fault));
-    }
+    check(program)?;
     let n = tree.count();
     if work.len() < n {
         return Err(Fault::SmallWork);
     }
-    let _ = selector.load(tree, program);
-    let _ = selector.rise(tree, work, n);
-    let _ = selector.fall(tree, work, n);
+    selector.load(tree, program)?;
+    selector.rise(tree, work, n)?;
+    selector.fall(tree, work, n)?;
     Ok(())
 }

@@ -1,13 +1,12 @@
-use Rattle.std.proofs.Common.{◌≡◌, ◌-◌}
+use Rattle.std.proofs.Common.{◌≡◌}
 use Rattle.tally.specs.Monoid.{marks_of}
-use Rattle.memo.specs.Places.{Recalls}
 use Rattle.commands.specs.Commands.{commands_of}
 use Rattle.tallying.specs.Nodes.{marked_nodes}
-use Rattle.selector.specs.Recalled.{Marked}
 use Rattle.selector.proofs.marking.join_marks.Given as goal
 
-abbrev pub invariant-loop-v : goal.invariant-loop-v
-invariant-loop-v g l =
-    let k = g.K.Tally in
-    (k.value l.sum ≡ marks_of k.empty k.mark k.join (marked_nodes (commands_of l.rules) l.work l.lo (l.v - l.lo)))
-    × Recalls (Marked (commands_of l.rules)) l.memo.places
+abbrev pub invariant-loop-i : goal.invariant-loop-i
+invariant-loop-i g l =
+    let k = g.K.Tally in record {
+      sum : k.value l.sum ≡ marks_of k.empty k.mark k.join (marked_nodes (commands_of l.rules) l.work l.lo l.i);
+      rules : l.marks.rules.now ≡ l.rules;
+    }
