@@ -7,14 +7,15 @@ ghost use Rattle.rows.specs.Excerpts.{excerpt_of};
 ghost use Rattle.rows.proofs.Excerpts.{excerpt_lawful};
 ghost use Rattle.tree.specs.declared.fault.Fault.TheVariants.{NoNode};
 
-use tree::Tree;
 use tree::fault::Fault;
+use tree::{NO_LABEL, Tree};
 
 // Numbered from 0, with label 0 at its root.
 #[derive(Drop)]
 pub struct Excerpt<'a, T: Tree> {
     tree: &'a T,
     node: usize,
+    ghost inside: { node < count_of (T.Tree.rows tree.now) },
 }
 
 impl<'a, T: Tree> Excerpt<'a, T> {
@@ -36,44 +37,37 @@ impl<'a, T: Tree> Tree for Excerpt<'a, T> {
     ghost lawful = { λ x. excerpt_lawful (T.Tree.rows x.tree.now) x.node (T.Tree.lawful x.tree.now) };
 
     fn count(&self) -> usize {
-        self.tree.size(self.node).max(1)
+        self.tree.size(self.node)
     }
 
     fn label(&self, v: usize) -> u16 {
         if v == 0 {
             0
-        } else if v < self.tree.size(self.node) {
+        } else if v < self.count() {
             self.tree.label(self.node + v)
         } else {
-            65535
+            NO_LABEL
         }
     }
 
     fn first_child(&self, v: usize) -> Option<usize> {
-        if v >= self.tree.size(self.node) {
+        if v >= self.count() {
             return None;
         }
-        match self.tree.first_child(self.node + v) {
-            Some(w) => Some(w - self.node),
-            None => None,
-        }
+        let w = self.tree.first_child(self.node + v)?;
+        Some(w - self.node)
     }
 
     fn next_sibling(&self, v: usize) -> Option<usize> {
-        if v == 0 || v >= self.tree.size(self.node) {
+        if v == 0 || v >= self.count() {
             return None;
         }
-        match self.tree.next_sibling(self.node + v) {
-            Some(w) => Some(w - self.node),
-            None => None,
-        }
+        let w = self.tree.next_sibling(self.node + v)?;
+        Some(w - self.node)
     }
 
     fn size(&self, v: usize) -> usize {
-        let size = self.tree.size(self.node);
-        if v == 0 {
-            size.max(1)
-        } else if v < size {
+        if v < self.count() {
             self.tree.size(self.node + v)
         } else {
             0

@@ -1,7 +1,10 @@
 -- What is known of a parenthesis tree.
 use Rattle.std.proofs.Common.{◌≡◌, ℕ, zero, suc, ◌+◌, ◌-◌, ◌*◌, ◌/◌, ◌<◌, ◌≤◌, Bool, true, false, cond, List, [], ◌∷◌, length, get_or, take, drop, pos, ◌+ℤ◌, ◌≤ℤ◌, Some, None, sym, refl, ap, ◌∙◌, subst, arith, length-drop}
-use Rattle.std.proofs.lemmas.List.{drop_all, get_or_past}
-use Rattle.rows.specs.Rows.{Row, nobody, label_of}
+use Rattle.std.specs.Bool.{then_some}
+use Rattle.std.specs.List.Sorted.{IsNonDecreasingBy}
+use Rattle.std.proofs.lemmas.List.{drop_all, get_or_default}
+use Rattle.std.proofs.lemmas.List.Sorted.{IsNonDecreasingBy-from_all_adjacent}
+use Rattle.rows.specs.Rows.{Row, label_of}
 use Rattle.rows.specs.Answers.{first_here, first_of, next_here, next_of, size_here, size_of}
 use Rattle.rows.specs.Lawful.{IsLawful}
 use Rattle.shape.specs.Bits.{bits_of, openings, select, close}
@@ -21,12 +24,20 @@ lawful_some [] l = let z : ◌≡◌ {A = ℕ} 0 1 = cc in absurd (omega arith)
 lawful_some (r ∷ rs) l = omega arith
 
 -- the label of a row is that of its number
-labels_kept : (k v : ℕ) (bs : List Bool) (ls : List ℕ) → v < length (rows_from k bs ls) → get_or ls v 0 ≡ label_of (rows_from k bs ls) v
-labels_kept k v [] ls h = absurd (omega arith)
-labels_kept k v (true ∷ bs) [] h = absurd (omega arith)
+labels_kept : (k v : ℕ) (bs : List Bool) (ls : List ℕ) → length ls ≡ length (rows_from k bs ls) → get_or ls v 65535 ≡ label_of (rows_from k bs ls) v
+labels_kept k zero [] [] h = refl
+labels_kept k (suc v) [] [] h = refl
+labels_kept k v [] (l ∷ ls) h = absurd (omega arith)
+labels_kept k zero (true ∷ bs) [] h = refl
+labels_kept k (suc v) (true ∷ bs) [] h = refl
 labels_kept k zero (true ∷ bs) (l ∷ ls) h = refl
 labels_kept k (suc v) (true ∷ bs) (l ∷ ls) h = labels_kept (suc k) v bs ls (omega arith)
 labels_kept k v (false ∷ bs) ls h = labels_kept (k - 1) v bs ls h
+
+-- a node, if the test finds one
+told : (b : Bool) (w : ℕ) → then_some b w ≡ cond b (Some w) None
+told true w = refl
+told false w = refl
 
 spare_closes : (s : ℕ) → get_or (closing s []) 0 false ≡ false
 spare_closes zero = refl
@@ -101,13 +112,21 @@ module _ (t : ParenTree) where
         let l = ap (λ (b : Block). b.least) here in
         block_skip (bits_of t.bits.now) (2 * t.count) bits_long j (omega (arith, directory_long)) e f small (subst (λ z. pos 0 ≤ℤ (pos e +ℤ z)) l low) (omega arith)
 
+  pub label_is : (v : ℕ) → get_or t.labels.now v 65535 ≡ label_of (rows_of t.bits.now t.labels.now) v
+  label_is v = labels_kept 0 v (bits_of t.bits.now) t.labels.now (omega (arith, t.labelled, t.counted))
+
+  pub befores_grow : IsNonDecreasingBy (λ (b : Block). b.before) t.directory.now
+  befores_grow =
+      IsNonDecreasingBy-from_all_adjacent (λ (b : Block). b.before) t.directory.now
+      (λ j d h. let a = ap (λ (b : Block). b.before) (get_or_default t.directory.now j d blank (omega arith)) in
+      let b = ap (λ (b : Block). b.before) (get_or_default t.directory.now (j + 1) d blank (omega arith)) in
+      let g = before_grows j (omega arith) in
+      omega arith)
+
   -- the answers for a number that is no node
   module _ (v : ℕ) (past : t.count ≤ v) where
     none : drop v (rows_of t.bits.now t.labels.now) ≡ []
     none = drop_all v (rows_of t.bits.now t.labels.now) (omega (arith, t.counted))
-
-    pub label_past : 65535 ≡ label_of (rows_of t.bits.now t.labels.now) v
-    label_past = sym (ap (λ (r : Row). r.label) (get_or_past (rows_of t.bits.now t.labels.now) v nobody (omega (arith, t.counted))))
 
     pub first_past : None ≡ first_of (rows_of t.bits.now t.labels.now) v
     first_past = sym (ap (first_here v) none)
@@ -123,17 +142,14 @@ module _ (t : ParenTree) where
     within : v < length (rows_of t.bits.now t.labels.now)
     within = omega (arith, t.counted)
 
-    pub label_at : get_or t.labels.now v 0 ≡ label_of (rows_of t.bits.now t.labels.now) v
-    label_at = labels_kept 0 v (bits_of t.bits.now) t.labels.now within
-
     -- with its opening at the place p
     module _ (p : ℕ) (at_p : p ≡ select v (bits_of t.bits.now)) where
       pub opening_below : p < 8 * length t.bits.now
       opening_below = omega (arith, bits_length t.bits.now, opening_within (bits_of t.bits.now) (rows_of t.bits.now t.labels.now) _ t.shape t.law v within)
 
-      pub first_at : cond (get_or (bits_of t.bits.now) (p + 1) false) (Some (v + 1)) None ≡ first_of (rows_of t.bits.now t.labels.now) v
+      pub first_at : then_some (get_or (bits_of t.bits.now) (p + 1) false) (v + 1) ≡ first_of (rows_of t.bits.now t.labels.now) v
       first_at =
-          ap (λ (x : ℕ). cond (get_or (bits_of t.bits.now) (x + 1) false) (Some (v + 1)) None) at_p
+          told (get_or (bits_of t.bits.now) (p + 1) false) (v + 1) ∙ ap (λ (x : ℕ). cond (get_or (bits_of t.bits.now) (x + 1) false) (Some (v + 1)) None) at_p
           ∙ first_is (bits_of t.bits.now) (rows_of t.bits.now t.labels.now) _ t.shape t.law v within
 
       -- and its closing at the place q
@@ -152,11 +168,11 @@ module _ (t : ParenTree) where
         pub size_at : (q - p + 1) / 2 ≡ size_of (rows_of t.bits.now t.labels.now) v
         size_at = ap (λ (n : ℕ). n / 2) span ∙ size_told (bits_of t.bits.now) (rows_of t.bits.now t.labels.now) _ t.shape t.law v within
 
-        pub next_at : cond (get_or (bits_of t.bits.now) (q + 1) false) (Some (v + (q - p + 1) / 2)) None ≡ next_of (rows_of t.bits.now t.labels.now) v
+        pub next_at : then_some (get_or (bits_of t.bits.now) (q + 1) false) (v + (q - p + 1) / 2) ≡ next_of (rows_of t.bits.now t.labels.now) v
         next_at =
             let bs = bits_of t.bits.now in
             let z : q + 1 ≡ select v bs + 1 + (close 0 (drop (select v bs + 1) bs) + 1) = omega (arith, span) in
-            ap (λ (x : ℕ). cond (get_or bs x false) (Some (v + (q - p + 1) / 2)) None) z
+            told (get_or bs (q + 1) false) (v + (q - p + 1) / 2) ∙ ap (λ (x : ℕ). cond (get_or bs x false) (Some (v + (q - p + 1) / 2)) None) z
             ∙ ap (λ (n : ℕ). cond (get_or bs (select v bs + 1 + (close 0 (drop (select v bs + 1) bs) + 1)) false) (Some (v + n)) None) size_at
             ∙ next_is bs (rows_of t.bits.now t.labels.now) _ t.shape t.law v within (spare_closes (8 * length t.bits.now - 2 * t.count))
 

@@ -1,5 +1,5 @@
 -- What a part of a search tells: where the sought parenthesis is, or from where and how the search goes on.
-use Rattle.std.specs.Prelude.{◌≡◌, ℕ, ◌+◌, ◌≤◌, Bool, true, false, List, length, Some, None, Option}
+use Rattle.std.specs.Prelude.{◌≡◌, ℕ, ◌+◌, ◌≤◌, Bool, List, length, Some, None, Option}
 use Rattle.shape.specs.Bits.{next_opening, next_closing}
 
 -- from the place p with v openings to pass, to the place q with w to pass
@@ -12,7 +12,7 @@ abbrev pub Closes : List Bool → ℕ → ℕ → ℕ → ℕ → Option ℕ →
 Closes bs p e q f (Some i) = next_closing bs p e ≡ i
 Closes bs p e q f None = (next_closing bs p e ≡ next_closing bs q f) × (f ≤ q)
 
--- whether the n places from p on are passed over at once
-abbrev pub Skips : List Bool → ℕ → ℕ → ℕ → ℕ → Bool → Type 0
-Skips bs p n e f true = (next_closing bs p e ≡ next_closing bs (p + n) f) × (f ≤ p + n) × (p + n ≤ length bs)
-Skips bs p n e f false = f ≡ e
+-- the excess after the n places from p on, where they are passed over at once
+abbrev pub Skips : List Bool → ℕ → ℕ → ℕ → Option ℕ → Type 0
+Skips bs p n e (Some f) = (next_closing bs p e ≡ next_closing bs (p + n) f) × (f ≤ p + n) × (p + n ≤ length bs)
+Skips bs p n e None = Unit {0}

@@ -4,7 +4,6 @@
 ghost use Rattle.rows.proofs.Laws.{to_lawful};
 ghost use Rattle.scan.specs.Trees.{rows_of};
 
-mod answers;
 pub mod lengths;
 mod load;
 mod locate;
@@ -13,7 +12,8 @@ pub mod places;
 mod search;
 
 use paren_tree::ParenTree;
-use tree::Tree;
+use scan::bits::opens;
+use tree::{NO_LABEL, Tree};
 
 impl Tree for ParenTree<'_> {
     ghost rows = { λ t. rows_of t.bits.now t.labels.now };
@@ -25,18 +25,32 @@ impl Tree for ParenTree<'_> {
     }
 
     fn label(&self, v: usize) -> u16 {
-        self.label_of(v)
+        self.labels.get(v).copied().unwrap_or(NO_LABEL)
     }
 
+    // The node, if any, that opens right after the opening of node v.
     fn first_child(&self, v: usize) -> Option<usize> {
-        self.first_child_of(v)
+        if v >= self.count {
+            return None;
+        }
+        let next = self.opening(v) + 1;
+        opens(self.bits, next).then_some(v + 1)
     }
 
+    // The node, if any, that opens right after the closing of node v.
     fn next_sibling(&self, v: usize) -> Option<usize> {
-        self.next_sibling_of(v)
+        if v >= self.count {
+            return None;
+        }
+        let at = self.pair(v);
+        opens(self.bits, at.closing + 1).then_some(v + at.nodes())
     }
 
     fn size(&self, v: usize) -> usize {
-        self.size_of(v)
+        if v < self.count {
+            self.pair(v).nodes()
+        } else {
+            0
+        }
     }
 }

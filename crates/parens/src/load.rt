@@ -44,14 +44,9 @@ impl<'a> ParenTree<'a> {
         ensures answers { Loads bits.now labels.now directory.now count result }
         ensures leaves { elim result [ Ok _ ↦ (self.new.bits.now ≡ take (bytes count) bits.now) × (self.new.labels.now ≡ take count labels.now) × (self.new.directory.now ≡ take (blocks (2 * count)) directory.now) × (self.new.count ≡ count) | Err _ ↦ self.new ≡ self.old ] }
     {
-        let taken = bytes_for(count);
-        let made = blocks_for(count);
-        if taken > bits.len() || count > labels.len() || made > directory.len() {
-            return Err(Fault::Memory);
-        }
-        let bits = &bits[0..taken];
-        let labels = &labels[0..count];
-        let directory = &directory[0..made];
+        let bits = bits.get(..bytes_for(count)).ok_or(Fault::Memory)?;
+        let labels = labels.get(..count).ok_or(Fault::Memory)?;
+        let directory = directory.get(..blocks_for(count)).ok_or(Fault::Memory)?;
         if !of_tree(bits, labels, directory, count) {
             return Err(Fault::NoTree);
         }

@@ -16,17 +16,9 @@ impl ParenTree<'_> {
         ensures before { (get_or self.now.directory.now result (record { before = 0; least = pos 0 })).before ≤ v }
         ensures last { result + 1 < length self.now.directory.now → v < (get_or self.now.directory.now (result + 1) (record { before = 0; least = pos 0 })).before }
     {
-        let mut low = 0;
-        let mut high = self.directory.len();
-        while high - low > 1 {
-            let middle = (low + high) / 2;
-            if v >= self.directory[middle].before as usize {
-                low = middle;
-            } else {
-                high = middle;
-            }
-        }
-        low
+        self.directory
+            .partition_point(|block| block.before as usize <= v)
+            - 1
     }
 
     // The place of node v's opening.
@@ -48,22 +40,18 @@ impl ParenTree<'_> {
         8 * self.bits.len()
     }
 
-    // Passes over block j, if another follows and the excess stays 0 or more over it.
-    fn skips(&self, j: usize, excess: &mut usize) -> bool
+    // The excess after block j, if another block follows and the excess stays 0 or more over it.
+    fn skip(&self, j: usize, excess: usize) -> Option<usize>
         requires within { j < length self.now.directory.now }
-        requires low { excess.old ≤ 256 * j }
-        ensures { Skips (bits_of self.now.bits.now) (256 * j) 256 excess.old excess.new result }
+        requires low { excess ≤ 256 * j }
+        ensures { Skips (bits_of self.now.bits.now) (256 * j) 256 excess result }
     {
-        if j + 1 >= self.directory.len() {
-            return false;
-        }
         let here = self.directory[j];
-        let next = self.directory[j + 1];
-        if (*excess as i32) + (here.least as i32) < 0 {
-            return false;
+        let next = self.directory.get(j + 1)?;
+        if (excess as i32) + (here.least as i32) < 0 {
+            return None;
         }
-        *excess = *excess + 2 * (next.before as usize - here.before as usize) - 256;
-        true
+        Some(excess + 2 * (next.before as usize - here.before as usize) - 256)
     }
 
     // The place of the closing that matches an opening just before the place `from`.
@@ -82,15 +70,15 @@ impl ParenTree<'_> {
             return p;
         }
         for j in block..self.directory.len() {
-            if !self.skips(j, &mut excess) {
-                if let Some(p) = close_in_bytes(
-                    self.bits,
-                    32 * j,
-                    bytes.min(32 * j + 32),
-                    &mut excess,
-                ) {
-                    return p;
-                }
+            if let Some(after) = self.skip(j, excess) {
+                excess = after;
+            } else if let Some(p) = close_in_bytes(
+                self.bits,
+                32 * j,
+                bytes.min(32 * j + 32),
+                &mut excess,
+            ) {
+                return p;
             }
         }
         8 * bytes

@@ -1,2 +1,3 @@
+pub mod Got
 pub mod Decided
 pub mod Written

@@ -16,8 +16,8 @@ use check::of_tree;
 use row_tree::RowTree;
 use stored::lone_row;
 use stored::row::StoredRow;
-use tree::Tree;
 use tree::fault::Fault;
+use tree::{NO_LABEL, Tree};
 
 const LONE: [StoredRow; 1] = [StoredRow {
     label: 0,
@@ -58,41 +58,23 @@ impl Tree for RowTree<'_> {
     }
 
     fn label(&self, v: usize) -> u16 {
-        if v < self.rows.len() {
-            self.rows[v].label
-        } else {
-            65535
-        }
+        self.rows.get(v).map_or(NO_LABEL, |row| row.label)
     }
 
     fn first_child(&self, v: usize) -> Option<usize> {
-        if v < self.rows.len() && self.rows[v].size > 1 {
-            Some(v + 1)
-        } else {
-            None
-        }
+        let row = self.rows.get(v)?;
+        (row.size > 1).then_some(v + 1)
     }
 
     // The row after v's subtree, if it has the same parent.
     fn next_sibling(&self, v: usize) -> Option<usize> {
-        let n = self.rows.len();
-        if v >= n {
-            return None;
-        }
-        let row = self.rows[v];
+        let row = self.rows.get(v)?;
         let w = v + row.size as usize;
-        if w < n && self.rows[w].distance as usize == w - v + row.distance as usize {
-            Some(w)
-        } else {
-            None
-        }
+        let next = self.rows.get(w)?;
+        (next.distance as usize == w - v + row.distance as usize).then_some(w)
     }
 
     fn size(&self, v: usize) -> usize {
-        if v < self.rows.len() {
-            self.rows[v].size as usize
-        } else {
-            0
-        }
+        self.rows.get(v).map_or(0, |row| row.size as usize)
     }
 }

@@ -1,18 +1,11 @@
 // Parentheses as the bits of bytes, high bits first: 1 opens a node, 0 closes it.
-ghost use Rattle.std.specs.Prelude.{◌≡◌, ◌/◌, ◌<◌, false, length, slice_index_or};
+ghost use Rattle.std.specs.Prelude.{◌≡◌, false, slice_index_or};
 ghost use Rattle.shape.specs.Bits.{bits_of};
 
 // Whether the parenthesis at the place p opens a node; none does past the end.
 pub fn opens(bits: &[u8], p: usize) -> bool
     ensures { result ≡ slice_index_or (bits_of bits.now) p false }
 {
-    p / 8 < bits.len() && bit(bits, p)
-}
-
-// The same at a place that the bytes have.
-fn bit(bits: &[u8], p: usize) -> bool
-    requires { p / 8 < length bits.now }
-    ensures { result ≡ slice_index_or (bits_of bits.now) p false }
-{
-    (bits[p / 8] >> (7 - p % 8)) % 2 == 1
+    bits.get(p / 8)
+        .is_some_and(|byte| (*byte >> (7 - p % 8)) % 2 == 1)
 }

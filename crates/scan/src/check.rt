@@ -29,27 +29,32 @@ fn shape_holds(bits: &[u8], labels: &[u16]) -> bool
     requires long { length bits.now ≤ 2048 }
     ensures { result ≡ walk_all (bits_of bits.now) labels.now }
 {
-    let count = labels.len();
-    if bits.len() == 0 || count == 0 || !opens(bits, 0) || labels[0] != 0 {
+    let [0, inner @ ..] = labels else {
+        return false;
+    };
+    if !opens(bits, 0) {
         return false;
     }
-    // nodes that are open, the deepest that the next may be, and nodes so far
+    // nodes that are open, the deepest that the next may be, and the labels that are left
     let mut depth = 1;
     let mut deepest = 1;
-    let mut v = 1;
+    let mut left = inner;
     for p in 1..8 * bits.len() {
         if opens(bits, p) {
-            if v >= count || !may_follow(depth, deepest, labels[v]) {
+            let [label, rest @ ..] = left else {
+                return false;
+            };
+            if !may_follow(depth, deepest, *label) {
                 return false;
             }
-            deepest = reach(depth, labels[v]);
+            deepest = reach(depth, *label);
             depth += 1;
-            v += 1;
+            left = rest;
         } else {
             depth = depth.saturating_sub(1);
         }
     }
-    depth == 0 && v == count
+    depth == 0 && left.is_empty()
 }
 
 // Whether a row of that depth and label may come next, below the root.

@@ -12,14 +12,14 @@ use tree::fault::Fault;
 pub fn bytes_for(count: usize) -> usize
     ensures { result ≡ bytes count }
 {
-    count / 4 + (count % 4 + 3) / 4
+    count.div_ceil(4)
 }
 
 // The blocks that they make.
 pub fn blocks_for(count: usize) -> usize
     ensures { result ≡ blocks (2 * count) }
 {
-    count / 128 + (count % 128 + 127) / 128
+    count.div_ceil(128)
 }
 
 // Writes the directory of the parentheses of `count` nodes. A refusal changes nothing: memory that is too small, or a count that no tree has.

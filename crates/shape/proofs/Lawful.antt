@@ -1,7 +1,6 @@
 -- Parentheses and labels that are of a tree.
-use Rattle.std.proofs.Common.{◌≡◌, ℕ, zero, suc, ◌+◌, ◌-◌, ◌*◌, ◌<◌, ◌≤◌, Bool, true, false, cond, ◌&&◌, eqb, leb, List, [], ◌∷◌, ◌++◌, map, length, get_or, take, drop, sym, refl, ap, ◌∙◌, subst, add-one, arith, length-drop}
+use Rattle.std.proofs.Common.{◌≡◌, ℕ, zero, suc, ◌+◌, ◌-◌, ◌*◌, ◌<◌, ◌≤◌, Bool, true, false, cond, ◌&&◌, eqb, leb, List, [], ◌∷◌, ◌++◌, map, length, get_or, take, drop, sym, refl, ap, ◌∙◌, subst, add-one, arith}
 use Rattle.std.proofs.lemmas.List.{drop_more, drop_all, take_all}
-use Rattle.std.proofs.lemmas.Bool.Decides.{nat_tests}
 use Rattle.std.proofs.lemmas.Bool.{and_parts, and_from, and_left, eqb-true, ne_eqb}
 use Rattle.rows.specs.Rows.{Row}
 use Rattle.rows.specs.Lawful.{IsLawful, follow, reach, inner_label}
@@ -204,36 +203,26 @@ walk_complete bs ls s w =
     ap (λ (x : List Bool). walk_all x ls) w.is ∙ ap (walk_all (parens_onto 0 rs (closing s []))) (sym labels) ∙ walk_lawful rs s w.law
 
 -- the steps of a walk, by places
-walk_at_opening : (k m : ℕ) (bs : List Bool) (ls : List ℕ) (p v : ℕ) → p < length bs → v < length ls → get_or bs p false ≡ true →
-    walk k m (drop p bs) (drop v ls) ≡ ((leb 1 k && leb k m && inner_label (get_or ls v 0)) && walk (suc k) (reach_of k (get_or ls v 0)) (drop (p + 1) bs) (drop (v + 1) ls))
-walk_at_opening k m bs ls p v hp hv b =
-    let d : drop p bs ≡ true ∷ drop (p + 1) bs = drop_more bs p false hp ∙ ap (λ (x : Bool). x ∷ drop (p + 1) bs) b in
-    ap (λ (x : List Bool). walk k m x (drop v ls)) d ∙ ap (walk k m (true ∷ drop (p + 1) bs)) (drop_more ls v 0 hv)
+walk_at_opening : (k m : ℕ) (bs : List Bool) (l : ℕ) (ls : List ℕ) (p : ℕ) → p < length bs → get_or bs p false ≡ true →
+    walk k m (drop p bs) (l ∷ ls) ≡ ((leb 1 k && leb k m && inner_label l) && walk (suc k) (reach_of k l) (drop (p + 1) bs) ls)
+walk_at_opening k m bs l ls p hp b = ap (λ (x : List Bool). walk k m x (l ∷ ls)) (drop_more bs p false hp ∙ ap (λ (x : Bool). x ∷ drop (p + 1) bs) b)
 
-pub walk_on : (k m : ℕ) (bs : List Bool) (ls : List ℕ) (p v : ℕ) → p < length bs → v < length ls → get_or bs p false ≡ true → (leb 1 k && leb k m && inner_label (get_or ls v 0)) ≡ true →
-    walk k m (drop p bs) (drop v ls) ≡ walk (k + 1) (reach_of k (get_or ls v 0)) (drop (p + 1) bs) (drop (v + 1) ls)
-walk_on k m bs ls p v hp hv b h =
-    walk_at_opening k m bs ls p v hp hv b ∙ ap (λ (x : Bool). x && walk (suc k) (reach_of k (get_or ls v 0)) (drop (p + 1) bs) (drop (v + 1) ls)) h
-    ∙ sym (ap (λ (x : ℕ). walk x (reach_of k (get_or ls v 0)) (drop (p + 1) bs) (drop (v + 1) ls)) (add-one k))
+pub walk_on : (k m : ℕ) (bs : List Bool) (l : ℕ) (ls : List ℕ) (p : ℕ) → p < length bs → get_or bs p false ≡ true → (leb 1 k && leb k m && inner_label l) ≡ true →
+    walk k m (drop p bs) (l ∷ ls) ≡ walk (k + 1) (reach_of k l) (drop (p + 1) bs) ls
+walk_on k m bs l ls p hp b h =
+    walk_at_opening k m bs l ls p hp b ∙ ap (λ (x : Bool). x && walk (suc k) (reach_of k l) (drop (p + 1) bs) ls) h ∙ sym (ap (λ (x : ℕ). walk x (reach_of k l) (drop (p + 1) bs) ls) (add-one k))
 
-pub walk_refused : (k m : ℕ) (bs : List Bool) (ls : List ℕ) (p v : ℕ) → p < length bs → v < length ls → get_or bs p false ≡ true → (leb 1 k && leb k m && inner_label (get_or ls v 0)) ≡ false →
-    walk k m (drop p bs) (drop v ls) ≡ false
-walk_refused k m bs ls p v hp hv b h =
-    walk_at_opening k m bs ls p v hp hv b ∙ ap (λ (x : Bool). x && walk (suc k) (reach_of k (get_or ls v 0)) (drop (p + 1) bs) (drop (v + 1) ls)) h
+pub walk_refused : (k m : ℕ) (bs : List Bool) (l : ℕ) (ls : List ℕ) (p : ℕ) → p < length bs → get_or bs p false ≡ true → (leb 1 k && leb k m && inner_label l) ≡ false → walk k m (drop p bs) (l ∷ ls) ≡ false
+walk_refused k m bs l ls p hp b h = walk_at_opening k m bs l ls p hp b ∙ ap (λ (x : Bool). x && walk (suc k) (reach_of k l) (drop (p + 1) bs) ls) h
 
-pub walk_unlabelled : (k m : ℕ) (bs : List Bool) (ls : List ℕ) (p v : ℕ) → p < length bs → length ls ≤ v → get_or bs p false ≡ true → walk k m (drop p bs) (drop v ls) ≡ false
-walk_unlabelled k m bs ls p v hp hv b =
-    let d : drop p bs ≡ true ∷ drop (p + 1) bs = drop_more bs p false hp ∙ ap (λ (x : Bool). x ∷ drop (p + 1) bs) b in
-    ap (λ (x : List Bool). walk k m x (drop v ls)) d ∙ ap (walk k m (true ∷ drop (p + 1) bs)) (drop_all v ls hv)
+pub walk_unlabelled : (k m : ℕ) (bs : List Bool) (p : ℕ) → p < length bs → get_or bs p false ≡ true → walk k m (drop p bs) [] ≡ false
+walk_unlabelled k m bs p hp b = ap (λ (x : List Bool). walk k m x []) (drop_more bs p false hp ∙ ap (λ (x : Bool). x ∷ drop (p + 1) bs) b)
 
-pub walk_closed : (k m : ℕ) (bs : List Bool) (ls : List ℕ) (p v : ℕ) → p < length bs → get_or bs p false ≡ false → walk k m (drop p bs) (drop v ls) ≡ walk (k - 1) m (drop (p + 1) bs) (drop v ls)
-walk_closed k m bs ls p v hp b =
-    ap (λ (x : List Bool). walk k m x (drop v ls)) (drop_more bs p false hp ∙ ap (λ (x : Bool). x ∷ drop (p + 1) bs) b)
+pub walk_closed : (k m : ℕ) (bs : List Bool) (ls : List ℕ) (p : ℕ) → p < length bs → get_or bs p false ≡ false → walk k m (drop p bs) ls ≡ walk (k - 1) m (drop (p + 1) bs) ls
+walk_closed k m bs ls p hp b = ap (λ (x : List Bool). walk k m x ls) (drop_more bs p false hp ∙ ap (λ (x : Bool). x ∷ drop (p + 1) bs) b)
 
-pub walk_ended : (k m : ℕ) (bs : List Bool) (ls : List ℕ) (p v : ℕ) → length bs ≤ p → v ≤ length ls → walk k m (drop p bs) (drop v ls) ≡ (eqb k 0 && eqb v (length ls))
-walk_ended k m bs ls p v hp hv =
-    let n = length-drop v ls in
-    ap (λ (x : List Bool). walk k m x (drop v ls)) (drop_all p bs hp) ∙ grind (arith, nat_tests)
+pub walk_ended : (k m : ℕ) (bs : List Bool) (ls : List ℕ) (p : ℕ) → length bs ≤ p → walk k m (drop p bs) ls ≡ (eqb k 0 && eqb (length ls) 0)
+walk_ended k m bs ls p hp = ap (λ (x : List Bool). walk k m x ls) (drop_all p bs hp)
 
 -- what a whole walk refuses at once
 pub refused_bits : (bs : List Bool) (ls : List ℕ) → length bs ≡ 0 → false ≡ walk_all bs ls
@@ -257,5 +246,5 @@ refused_root (false ∷ bs) ls h = refl
 refused_root (true ∷ bs) [] h = refl
 refused_root (true ∷ bs) (l ∷ ls) h = sym (and_left _ _ (and_left _ _ (ne_eqb l 0 h)))
 
-pub walk_same : (k i m n v w : ℕ) (bs : List Bool) (ls : List ℕ) → k ≡ i → m ≡ n → v ≡ w → walk k m bs (drop v ls) ≡ walk i n bs (drop w ls)
-walk_same k i m n v w bs ls a b c = ap (λ (x : ℕ). walk x m bs (drop v ls)) a ∙ ap (λ (x : ℕ). walk i x bs (drop v ls)) b ∙ ap (λ (x : ℕ). walk i n bs (drop x ls)) c
+pub walk_same : (k i m n : ℕ) (ls qs : List ℕ) (bs : List Bool) → k ≡ i → m ≡ n → ls ≡ qs → walk k m bs ls ≡ walk i n bs qs
+walk_same k i m n ls qs bs a b c = ap (λ (x : ℕ). walk x m bs ls) a ∙ ap (λ (x : ℕ). walk i x bs ls) b ∙ ap (walk i n bs) c

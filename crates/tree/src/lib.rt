@@ -10,7 +10,10 @@ pub mod fault;
 
 use fault::Fault;
 
-// Node numbers are counted from 0 in document order. For a number that is no node the last four questions answer FFFFh, none, none and 0.
+// The label that is answered for a number that is no node.
+pub const NO_LABEL: u16 = 0xffff;
+
+// Node numbers are counted from 0 in document order. For a number that is no node the last four questions answer NO_LABEL, none, none and 0.
 pub trait Tree {
     // one row a node, in document order
     ghost rows: { Self → List Row };

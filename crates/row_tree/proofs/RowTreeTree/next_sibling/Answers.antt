@@ -1,17 +1,15 @@
-use Rattle.stored.proofs.Questions.{next_some, next_other, next_none, next_past}
+use Rattle.std.proofs.Common.{◌∙◌}
+use Rattle.stored.proofs.Questions.{next_past}
+use Rattle.row_tree.proofs.Got.{of_tree, next_told, next_missed}
 use Rattle.row_tree.proofs.RowTreeTree.next_sibling.Goals as goal
-use Rattle.row_tree.proofs.RowTreeTree.next_sibling.Goals.{else-w-n-via-then-w-n+else-self-w, else-w-n-via-else-w-n}
 
-pub returns-then-v-n : goal.returns-then-v-n
-returns-then-v-n c = let t = c.args.self.now in next_past t.rows.now (record { lawful = t.law; same = t.same }) c.args.v c.if-v-n.true
-
-pub returns-then-self-w : goal.returns-then-self-w
-returns-then-self-w c = let t = c.args.self.now in next_some t.rows.now (record { lawful = t.law; same = t.same }) c.args.v c.if-v-n.false c.if-w-n.true c.if-self-w.true
-
-pub returns-else-w-n : goal.returns-else-w-n
-returns-else-w-n c =
+pub returns-in_err-row : goal.returns-in_err-row
+returns-in_err-row c =
     let t = c.args.self.now in
-    elim c.else-w-n.branch [
-      | else-w-n-via-then-w-n+else-self-w w ↦ next_other t.rows.now (record { lawful = t.law; same = t.same }) c.args.v c.if-v-n.false w.if-w-n.true w.if-self-w.false
-      | else-w-n-via-else-w-n w ↦ next_none t.rows.now (record { lawful = t.law; same = t.same }) c.args.v c.if-v-n.false w.if-w-n.false
-    ]
+    c.from_residual.ensures ∙ next_past t.rows.now (of_tree t) c.args.v c.in_err-row.ensures.lookup.3
+
+pub returns-in_err-next : goal.returns-in_err-next
+returns-in_err-next c = c.from_residual-in_err-next.ensures ∙ next_missed c.args.self.now c.args.v c.in_ok-row.row c.in_ok-row.ensures.lookup c.in_err-next.ensures.lookup
+
+pub returns : goal.returns
+returns c = c.then_some.ensures ∙ next_told c.args.self.now c.args.v c.in_ok-row.row c.in_ok-next.next c.in_ok-row.ensures.lookup c.in_ok-next.ensures.lookup

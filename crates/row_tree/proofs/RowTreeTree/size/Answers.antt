@@ -1,8 +1,10 @@
+use Rattle.std.proofs.Common.{rules}
+use Rattle.stored.specs.declared.row.StoredRow.{StoredRow}
 use Rattle.stored.proofs.Questions.{size_at, size_past}
+use Rattle.row_tree.proofs.Got.{of_tree, mapped}
 use Rattle.row_tree.proofs.RowTreeTree.size.Goals as goal
 
-pub returns-then-v-self : goal.returns-then-v-self
-returns-then-v-self c = let t = c.args.self.now in size_at t.rows.now (record { lawful = t.law; same = t.same }) c.args.v c.if-v-self.true
-
-pub returns-else-v-self : goal.returns-else-v-self
-returns-else-v-self c = let t = c.args.self.now in size_past t.rows.now (record { lawful = t.law; same = t.same }) c.args.v c.if-v-self.false
+pub returns : goal.returns
+returns c =
+    let t = c.args.self.now in
+    mapped (λ (e : StoredRow). e.size) 0 t.rows.now c.args.v c.get.result _ _ _ c.get.ensures.lookup c.map_or.ensures (λ e q. search rules) (size_at t.rows.now (of_tree t) c.args.v) (size_past t.rows.now (of_tree t) c.args.v)
