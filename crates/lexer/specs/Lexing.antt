@@ -10,6 +10,10 @@ use Rattle.lexer.specs.declared.tokens.Token.{Token}
 use Rattle.lexer.specs.declared.tokens.Token.TheVariants.{Symbol, Name, End}
 use Rattle.lexer.specs.declared.tokens.Reach.{Reach}
 
+-- calls that answer with the test p of a byte
+abbrev pub Tests : (ℕ → Bool) → (ℕ → Bool → Type 0) → Type 0
+Tests p called = (b : ℕ) (r : Bool) → called b r → r ≡ p b
+
 abbrev pub front : List ℕ → Front
 front [] = done
 front (b ∷ bs) = front_of b bs

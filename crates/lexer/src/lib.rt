@@ -1,14 +1,14 @@
 // The tokens of a query text, one at a time.
 #![tactic(auto)]
 
-ghost use Rattle.std.specs.Prelude.{◌≡◌, ℕ, ◌+◌, ◌<◌, ◌≤◌, length, drop};
+ghost use Rattle.std.specs.Prelude.{◌≡◌, ℕ, Bool, ◌+◌, ◌<◌, ◌≤◌, length, drop};
 ghost use Rattle.std.specs.List.{prefix_len};
 ghost use Rattle.grammar.specs.Bytes.{white, named, begins};
 ghost use Rattle.grammar.specs.Tokens.{first_is, name_of};
 ghost use Rattle.grammar.specs.Machine.{same};
 ghost use Rattle.grammar.specs.Glances.{number, fault_code, fault_place};
 ghost use Rattle.query.specs.Faults.{code_of, place_of};
-ghost use Rattle.lexer.specs.Lexing.{EndsReach, next_from, reached, placed, front, After};
+ghost use Rattle.lexer.specs.Lexing.{Tests, EndsReach, next_from, reached, placed, front, After};
 ghost use Rattle.lexer.specs.Readers.{tokens_of, end_of, Sees, Accepts, Words, Keywords, Negates, Ends};
 
 pub mod tokens;
@@ -33,42 +33,30 @@ fn is_white(b: u8) -> bool
 fn is_begin(b: u8) -> bool
     ensures { result ≡ begins b }
 {
-    matches!(b as char, 'a'..='z' | 'A'..='Z' | '_')
+    b.is_ascii_alphabetic() || b == b'_'
 }
 
 fn is_named(b: u8) -> bool
     ensures { result ≡ named b }
 {
-    matches!(b as char, 'a'..='z' | 'A'..='Z' | '_' | '0'..='9' | '-' | '.')
+    is_begin(b) || b.is_ascii_digit() || b == b'-' || b == b'.'
 }
 
-// Where the white space that begins at `from` ends.
-fn past_white(text: &[u8], from: usize) -> usize
-    ensures { result ≡ from + prefix_len white (drop from text.now) }
+// Where the bytes from `from` on that pass a test end.
+fn past<F: Fn(u8) -> bool>(text: &[u8], from: usize, test: F) -> usize
+    requires { F.IsAlwaysCallable test }
+    ensures is { (p : ℕ → Bool) → Tests p (F.post test) → result ≡ from + prefix_len p (drop from text.now) }
+    ensures on { from ≤ result }
+    ensures within { from ≤ length text.now → result ≤ length text.now }
 {
-    let mut n = from;
-    while n < text.len() && is_white(text[n]) {
-        n += 1;
-    }
-    n
-}
-
-// Where the name that begins at `from` ends.
-fn past_name(text: &[u8], from: usize) -> usize
-    ensures { result ≡ from + prefix_len named (drop from text.now) }
-{
-    let mut n = from;
-    while n < text.len() && is_named(text[n]) {
-        n += 1;
-    }
-    n
+    from + text.iter().skip(from).take_while(|b| test(**b)).count()
 }
 
 // Whether `b` stands at `at`.
 fn stands(text: &[u8], at: usize, b: u8) -> bool
     ensures { result ≡ first_is b (drop at text.now) }
 {
-    at < text.len() && text[at] == b
+    text.get(at) == Some(&b)
 }
 
 // The name that begins at `at`.
@@ -77,7 +65,7 @@ fn name_at<'a>(text: &'a [u8], at: usize) -> Result<Reach<'a>, Fault>
     ensures value { reached result ≡ placed at (name_of (drop at text.now)) }
     ensures ends { EndsReach result (length text.now) }
 {
-    let end = past_name(text, at);
+    let end = past(text, at, is_named);
     if end - at > 32 {
         return Err(Fault::LongName(at));
     }
@@ -93,73 +81,30 @@ fn token_at<'a>(text: &'a [u8], at: usize) -> Result<Reach<'a>, Fault>
     ensures value { reached result ≡ placed at (front (drop at text.now)) }
     ensures ends { EndsReach result (length text.now) }
 {
-    if at >= text.len() {
+    let Some(&b) = text.get(at) else {
         return Ok(Reach {
             token: Token::End,
             at: text.len(),
             end: at,
         });
-    }
-    match text[at] as char {
-        '/' => {
-            if stands(text, at + 1, b'/') {
-                Ok(Reach {
-                    token: Token::Symbol(Symbol::DoubleSlash),
-                    at,
-                    end: at + 2,
-                })
-            } else {
-                Ok(Reach {
-                    token: Token::Symbol(Symbol::Slash),
-                    at,
-                    end: at + 1,
-                })
-            }
-        }
-        '[' => Ok(Reach {
-            token: Token::Symbol(Symbol::LeftBracket),
-            at,
-            end: at + 1,
-        }),
-        ']' => Ok(Reach {
-            token: Token::Symbol(Symbol::RightBracket),
-            at,
-            end: at + 1,
-        }),
-        '(' => Ok(Reach {
-            token: Token::Symbol(Symbol::LeftParen),
-            at,
-            end: at + 1,
-        }),
-        ')' => Ok(Reach {
-            token: Token::Symbol(Symbol::RightParen),
-            at,
-            end: at + 1,
-        }),
-        '*' => Ok(Reach {
-            token: Token::Symbol(Symbol::Star),
-            at,
-            end: at + 1,
-        }),
-        ':' => {
-            if stands(text, at + 1, b':') {
-                Ok(Reach {
-                    token: Token::Symbol(Symbol::DoubleColon),
-                    at,
-                    end: at + 2,
-                })
-            } else {
-                Err(Fault::NoToken(at))
-            }
-        }
-        _ => {
-            if is_begin(text[at]) {
-                name_at(text, at)
-            } else {
-                Err(Fault::NoToken(at))
-            }
-        }
-    }
+    };
+    let (symbol, width) = match b as char {
+        '/' if stands(text, at + 1, b'/') => (Symbol::DoubleSlash, 2),
+        '/' => (Symbol::Slash, 1),
+        '[' => (Symbol::LeftBracket, 1),
+        ']' => (Symbol::RightBracket, 1),
+        '(' => (Symbol::LeftParen, 1),
+        ')' => (Symbol::RightParen, 1),
+        '*' => (Symbol::Star, 1),
+        ':' if stands(text, at + 1, b':') => (Symbol::DoubleColon, 2),
+        _ if is_begin(b) => return name_at(text, at),
+        _ => return Err(Fault::NoToken(at)),
+    };
+    Ok(Reach {
+        token: Token::Symbol(symbol),
+        at,
+        end: at + width,
+    })
 }
 
 // The next token from `place` on; the place goes past it, unless it is refused.
@@ -168,40 +113,10 @@ fn next_token<'a>(text: &'a [u8], place: &mut usize) -> Result<Reach<'a>, Fault>
     ensures ends { EndsReach result (length text.now) }
     ensures after { After result place.old place.new }
 {
-    let at = past_white(text, *place);
+    let at = past(text, *place, is_white);
     let reach = token_at(text, at)?;
     *place = reach.end;
     Ok(reach)
-}
-
-// The number of a symbol.
-fn number_of(symbol: Symbol) -> u8
-    ensures { result ≡ number symbol }
-{
-    match symbol {
-        Symbol::Slash => 0,
-        Symbol::DoubleSlash => 1,
-        Symbol::LeftBracket => 2,
-        Symbol::RightBracket => 3,
-        Symbol::LeftParen => 4,
-        Symbol::RightParen => 5,
-        Symbol::Star => 6,
-        Symbol::DoubleColon => 7,
-    }
-}
-
-// Whether the bytes are the same.
-fn equal_bytes(left: &[u8], right: &[u8]) -> bool
-    ensures { result ≡ same left.now right.now }
-{
-    left == right
-}
-
-// Whether a name is the word.
-pub fn same_bytes(name: &[u8], word: &[u8]) -> bool
-    ensures { result ≡ same name.now word.now }
-{
-    equal_bytes(name, word)
 }
 
 // Puts a reader's place back at its end.
@@ -237,28 +152,25 @@ impl<'a> Reader<'a> {
             place: &mut self.place,
             saved,
         };
-        let reach = next_token(text, ahead.place)?;
-        Ok(reach)
+        next_token(text, ahead.place)
     }
 
     // Goes past the symbol where it stands next, and gives its place.
     pub fn accept(&mut self, want: Symbol) -> Option<usize>
         ensures { Accepts want result self.old self.new }
     {
-        let Ok(reach) = self.peek() else {
-            return None;
-        };
-        match reach.token {
-            Token::Symbol(symbol) => {
-                if number_of(want) == number_of(symbol) {
-                    self.place = reach.end;
-                    Some(reach.at)
-                } else {
-                    None
-                }
+        match self.peek() {
+            Ok(
+                Reach {
+                    token: Token::Symbol(symbol),
+                    at,
+                    end,
+                },
+            ) if symbol == want => {
+                self.place = end;
+                Some(at)
             }
-            Token::Name(_) => None,
-            Token::End => None,
+            _ => None,
         }
     }
 
@@ -266,19 +178,18 @@ impl<'a> Reader<'a> {
     pub fn word(&mut self) -> Option<Word<'a>>
         ensures { Words result self.old self.new }
     {
-        let Ok(reach) = self.peek() else {
-            return None;
-        };
-        match reach.token {
-            Token::Name(bytes) => {
-                self.place = reach.end;
-                Some(Word {
-                    bytes,
-                    at: reach.at,
-                })
+        match self.peek() {
+            Ok(
+                Reach {
+                    token: Token::Name(bytes),
+                    at,
+                    end,
+                },
+            ) => {
+                self.place = end;
+                Some(Word { bytes, at })
             }
-            Token::Symbol(_) => None,
-            Token::End => None,
+            _ => None,
         }
     }
 
@@ -286,19 +197,18 @@ impl<'a> Reader<'a> {
     pub fn keyword(&mut self, want: &[u8]) -> bool
         ensures { Keywords want.now result self.old self.new }
     {
-        let Ok(reach) = self.peek() else {
-            return false;
-        };
-        match reach.token {
-            Token::Name(bytes) => {
-                if same_bytes(bytes, want) {
-                    self.place = reach.end;
-                    true
-                } else {
-                    false
-                }
+        match self.peek() {
+            Ok(
+                Reach {
+                    token: Token::Name(bytes),
+                    end,
+                    ..
+                },
+            ) if bytes == want => {
+                self.place = end;
+                true
             }
-            Token::Symbol(_) | Token::End => false,
+            _ => false,
         }
     }
 
@@ -313,27 +223,22 @@ impl<'a> Reader<'a> {
         if !ahead.keyword(b"not") {
             return None;
         }
-        match ahead.accept(Symbol::LeftParen) {
-            Some(at) => {
-                self.place = ahead.place;
-                Some(at)
-            }
-            None => None,
-        }
+        let at = ahead.accept(Symbol::LeftParen)?;
+        self.place = ahead.place;
+        Some(at)
     }
 
     // Whether the text ends here.
     pub fn at_end(&mut self) -> bool
         ensures { Ends result self.old self.new }
     {
-        let Ok(reach) = self.peek() else {
-            return false;
-        };
-        match reach.token {
-            Token::End => true,
-            Token::Symbol(_) => false,
-            Token::Name(_) => false,
-        }
+        matches!(
+            self.peek(),
+            Ok(Reach {
+                token: Token::End,
+                ..
+            })
+        )
     }
 
     // How the token that stands next is refused where it may not stand.

@@ -1,5 +1,6 @@
 -- The number and the place of each refusal of a query text.
-use Rattle.std.specs.Prelude.{ℕ}
+use Rattle.std.specs.Prelude.{ℕ, List, ◌++◌, codes}
+use Rattle.std.specs.Fmt.{decimal}
 use Rattle.query.specs.declared.fault.Fault.{Fault}
 use Rattle.query.specs.declared.fault.Fault.TheVariants.{Long, NoToken, LongName, Syntax, Deep, Many}
 
@@ -18,3 +19,7 @@ place_of (LongName p) = p
 place_of (Syntax p) = p
 place_of (Deep p) = p
 place_of (Many p) = p
+
+-- the line that tells of a refusal
+abbrev pub line_of : Fault → List ℕ
+line_of f = codes "refused " ++ decimal (code_of f) ++ codes " at " ++ decimal (place_of f)

@@ -9,6 +9,8 @@ use Rattle.query.specs.declared.table.Axis.{Axis}
 use Rattle.query.specs.declared.table.Axis.TheVariants.{SelfNode, Child, Descendant, FollowingSibling}
 use Rattle.query.specs.declared.table.NodeTest.{NodeTest}
 use Rattle.query.specs.declared.table.NodeTest.TheVariants.{Element, Name, Text, Node}
+use Rattle.query.specs.declared.table.Region.{Region}
+use Rattle.query.specs.declared.table.Region.TheVariants.{Outside, Inside}
 use Rattle.query.specs.declared.table.Step.{Step}
 use Rattle.query.specs.declared.table.Shape.{Shape}
 use Rattle.query.specs.declared.table.Shape.TheVariants as shape
@@ -27,6 +29,10 @@ ShowsTest bs Element t = t ≡ element
 ShowsTest bs (Name at len) t = (at + len ≤ length bs) × (t ≡ name (take len (drop at bs)))
 ShowsTest bs Text t = t ≡ text
 ShowsTest bs Node t = t ≡ node
+
+abbrev pub where_of : Region → Where
+where_of Outside = outer
+where_of Inside = inner
 
 abbrev pub blank_step : Step
 blank_step = record { slash = false; axis = SelfNode; test = Element; bracket = None; next = None }

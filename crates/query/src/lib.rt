@@ -1,14 +1,16 @@
 // A query that was read: a value of its own, with its text, its steps and its predicates; and why a text is refused.
 #![tactic(auto)]
 
-ghost use Rattle.std.specs.Prelude.{◌≡◌};
-ghost use Rattle.query.specs.Faults.{code_of, place_of};
+ghost use Rattle.std.specs.Prelude.{◌≡◌, Some};
+ghost use Rattle.query.specs.Faults.{code_of, place_of, line_of};
 
 pub mod fault;
 pub mod parsed;
 pub mod table;
 
 use fault::Fault;
+use std::error::Error;
+use std::fmt;
 
 impl Fault {
     // The number of the refusal.
@@ -39,3 +41,13 @@ impl Fault {
         }
     }
 }
+
+impl fmt::Display for Fault {
+    ghost output = { λ f. Some (line_of f) };
+
+    fn fmt<W: fmt::Write>(&self, f: &mut fmt::Formatter<W>) -> fmt::Result {
+        write!(f, "refused {} at {}", self.code(), self.place())
+    }
+}
+
+impl Error for Fault {}

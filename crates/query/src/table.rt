@@ -17,6 +17,13 @@ pub enum NodeTest {
     Node,
 }
 
+// Where a path stands: outside brackets or inside.
+#[derive(Clone, Copy, Debug, PartialEq, Eq)]
+pub enum Region {
+    Outside,
+    Inside,
+}
+
 // A step of a path. `slash`: it begins a path that has a leading slash. `bracket`: the predicate in its brackets.
 // `next`: the step after it in its path.
 #[derive(Clone, Copy, Debug, PartialEq, Eq)]

@@ -95,7 +95,7 @@ mod tests {
         match spelling::write_spelling(&query, &mut memory) {
             Ok(_) => Err(Fail::new("written")),
             Err(fault) => {
-                assert_eq!(rt; spelling::code(fault), 11);
+                assert_eq!(rt; fault.code(), 11);
                 assert!(rt; memory[0] == 1);
                 Ok(())
             }

@@ -19,7 +19,7 @@ use Rattle.reader.specs.Rows.{index_in, most, grown}
 use Rattle.query.specs.declared.fault.Fault.{Fault}
 use Rattle.query.specs.Faults.{code_of, place_of}
 use Rattle.query.specs.declared.table.Axis.{Axis}
-use Rattle.query.specs.declared.table.Axis.TheVariants.{Child}
+use Rattle.query.specs.declared.table.Axis.TheVariants.{Child, Descendant}
 use Rattle.query.specs.declared.table.NodeTest.{NodeTest}
 use Rattle.reader.specs.Heads.{starting, worded, NamedTells, TestTells, WordTells, HeadTells, outer_left, inner_left}
 
@@ -85,3 +85,8 @@ module _ (r q s : Reader) (z : List ℕ) (on : Moved r q) where
 pub child_head : (r q : Reader) (z : List ℕ) (x : Result NodeTest Fault) → next_is symbols.DoubleColon (tokens_of r) ≡ false → NamedTells z x r q → WordTells false z (heads Child x) r q
 child_head r q z (Ok x) h f = (f.0, f.1, f.2, λ c b l o i. child_step (end_of r) c b z l o i (tokens_of r) h ∙ f.3 c b child l o i)
 child_head r q z (Err k) h f = λ c b l o i. child_step (end_of r) c b z l o i (tokens_of r) h ∙ f c b child l o i
+
+-- after `//`
+pub far_head : (r q : Reader) (z : List ℕ) (x : Result NodeTest Fault) → NamedTells z x r q → WordTells true z (heads Descendant x) r q
+far_head r q z (Ok x) h = (h.0, h.1, h.2, λ c b l o i. h.3 c b descendant l o i)
+far_head r q z (Err k) h = λ c b l o i. h c b descendant l o i

@@ -3,3 +3,4 @@ pub mod Keeping
 pub mod Telling
 pub mod Walking
 pub mod Whole
+pub mod Other

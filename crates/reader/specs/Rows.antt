@@ -7,12 +7,6 @@ use Rattle.query.specs.declared.table.Step.{Step}
 use Rattle.query.specs.declared.table.Predicate.{Predicate}
 use Rattle.query.specs.declared.table.Table.{Table}
 use Rattle.query.specs.Shown.{step_at, predicate_at, index}
-use Rattle.reader.specs.declared.parts.Region.{Region}
-use Rattle.reader.specs.declared.parts.Region.TheVariants.{Outside, Inside}
-
-abbrev pub where_of : Region → Where
-where_of Outside = outer
-where_of Inside = inner
 
 abbrev pub index_in : Where → Table → ℕ
 index_in w t = index w t.outside_count t.inside_count
@@ -26,6 +20,10 @@ grown inner t = record { outside = t.outside; outside_count = t.outside_count; i
 abbrev pub most : Where → ℕ
 most outer = 16
 most inner = 23
+
+abbrev pub Counts : ℕ → ℕ → ℕ → Result ℕ Fault → Type 0
+Counts n m a (Ok k) = (n < m) × (k ≡ n + 1)
+Counts n m a (Err f) = (m ≤ n) × (f ≡ Many a)
 
 abbrev pub Begun : Where → ℕ → Result Unit Fault → Table → Table → Type 0
 Begun w a (Ok x) t u = (index_in w t < most w) × (u ≡ grown w t)

@@ -2,38 +2,54 @@
 ghost use Rattle.std.specs.Prelude.{◌≡◌, ◌<◌, length};
 ghost use Rattle.lexer.specs.Readers.{end_of, Spans};
 ghost use Rattle.query.specs.Shown.{axis_of};
-ghost use Rattle.reader.specs.Rows.{where_of};
+ghost use Rattle.query.specs.Shown.{where_of};
+ghost use Rattle.reader.specs.Parsing.{slash_of};
 ghost use Rattle.reader.specs.Heads.{Leads, far_of, AxisOf, NameTest, NamedTells, TestTells, usual, WordTells, HeadTells};
 
-use super::parts::{Head, Lead, Parser, Region};
+use super::parts::{Head, Lead, Parser};
 use super::rows::begin;
 use grammar::tokens::Symbol;
+use lexer::Reader;
 use lexer::tokens::Word;
-use lexer::{Reader, same_bytes};
 use query::fault::Fault;
-use query::table::{Axis, NodeTest};
+use query::table::{Axis, NodeTest, Region};
 
 // What leads to the next step; the reader goes past it.
 pub(crate) fn lead(reader: &mut Reader<'_>) -> Lead
     ensures { Leads result reader.old reader.new }
 {
     if reader.accept(Symbol::DoubleSlash).is_some() {
-        return Lead::DoubleSlash;
+        Lead::DoubleSlash
+    } else if reader.accept(Symbol::Slash).is_some() {
+        Lead::Slash
+    } else {
+        Lead::Nothing
     }
-    if reader.accept(Symbol::Slash).is_some() {
-        return Lead::Slash;
-    }
-    Lead::Nothing
 }
 
-// Whether a step after it has the descendant axis.
-pub(crate) fn is_far(lead: Lead) -> bool
-    ensures { result ≡ far_of lead }
-{
-    match lead {
-        Lead::Nothing => false,
-        Lead::Slash => false,
-        Lead::DoubleSlash => true,
+impl Lead {
+    // Whether it is a slash, or two.
+    pub(crate) fn is_slash(self) -> bool
+        ensures { result ≡ slash_of self }
+    {
+        self != Lead::Nothing
+    }
+
+    // Whether a step after it has the descendant axis.
+    pub(crate) fn is_far(self) -> bool
+        ensures { result ≡ far_of self }
+    {
+        self == Lead::DoubleSlash
+    }
+
+    // The axis of a step after it that names none.
+    fn usual_axis(self) -> Axis
+        ensures { axis_of result ≡ usual (far_of self) }
+    {
+        match self {
+            Lead::Nothing | Lead::Slash => Axis::Child,
+            Lead::DoubleSlash => Axis::Descendant,
+        }
     }
 }
 
@@ -41,13 +57,13 @@ pub(crate) fn is_far(lead: Lead) -> bool
 fn axis_of(word: &[u8]) -> Option<Axis>
     ensures { AxisOf word.now result }
 {
-    if same_bytes(word, b"self") {
+    if word == b"self".as_slice() {
         Some(Axis::SelfNode)
-    } else if same_bytes(word, b"child") {
+    } else if word == b"child".as_slice() {
         Some(Axis::Child)
-    } else if same_bytes(word, b"descendant") {
+    } else if word == b"descendant".as_slice() {
         Some(Axis::Descendant)
-    } else if same_bytes(word, b"following-sibling") {
+    } else if word == b"following-sibling".as_slice() {
         Some(Axis::FollowingSibling)
     } else {
         None
@@ -58,15 +74,9 @@ fn axis_of(word: &[u8]) -> Option<Axis>
 fn name_test(word: Word<'_>) -> NodeTest
     ensures { NameTest word.entry.at (length word.entry.bytes.now) result }
 {
-    let at = if word.at < 512 { word.at } else { 512 };
-    let len = if word.bytes.len() < 32 {
-        word.bytes.len()
-    } else {
-        32
-    };
     NodeTest::Name {
-        at: at as u16,
-        len: len as u8,
+        at: word.at.min(512) as u16,
+        len: word.bytes.len().min(32) as u8,
     }
 }
 
@@ -79,9 +89,9 @@ fn named(reader: &mut Reader<'_>, word: Word<'_>) -> Result<NodeTest, Fault>
     let Some(at) = reader.accept(Symbol::LeftParen) else {
         return Ok(name_test(word));
     };
-    let test = if same_bytes(word.bytes, b"text") {
+    let test = if word.bytes == b"text".as_slice() {
         NodeTest::Text
-    } else if same_bytes(word.bytes, b"node") {
+    } else if word.bytes == b"node".as_slice() {
         NodeTest::Node
     } else {
         return Err(Fault::Syntax(at));
@@ -106,50 +116,38 @@ fn node_test(reader: &mut Reader<'_>) -> Result<NodeTest, Fault>
     }
 }
 
-// The axis of a step that names none.
-fn usual_axis(far: bool) -> Axis
-    ensures { axis_of result ≡ usual far }
-{
-    if far { Axis::Descendant } else { Axis::Child }
-}
-
 // A step without its bracket that begins with a word, which was read.
-fn word_head(reader: &mut Reader<'_>, word: Word<'_>, far: bool) -> Result<Head, Fault>
+fn word_head(reader: &mut Reader<'_>, word: Word<'_>, lead: Lead) -> Result<Head, Fault>
     requires short { end_of reader.old < 513 }
     requires spans { Spans reader.old.text.now word.at word.bytes.now }
-    ensures { WordTells far word.entry.bytes.now result reader.old reader.new }
+    ensures { WordTells (far_of lead) word.entry.bytes.now result reader.old reader.new }
 {
-    if far {
-        let test = named(reader, word)?;
-        return Ok(Head {
-            axis: Axis::Descendant,
-            test,
-        });
+    if !lead.is_far()
+        && let Some(at) = reader.accept(Symbol::DoubleColon)
+    {
+        let Some(axis) = axis_of(word.bytes) else {
+            return Err(Fault::Syntax(at));
+        };
+        let test = node_test(reader)?;
+        return Ok(Head { axis, test });
     }
-    let Some(at) = reader.accept(Symbol::DoubleColon) else {
-        let test = named(reader, word)?;
-        return Ok(Head {
-            axis: Axis::Child,
-            test,
-        });
-    };
-    let Some(axis) = axis_of(word.bytes) else {
-        return Err(Fault::Syntax(at));
-    };
-    let test = node_test(reader)?;
-    Ok(Head { axis, test })
+    let test = named(reader, word)?;
+    Ok(Head {
+        axis: lead.usual_axis(),
+        test,
+    })
 }
 
 impl Parser<'_> {
     // A step without its bracket, which is due.
-    pub(crate) fn head(&mut self, region: Region, far: bool) -> Result<Head, Fault>
+    pub(crate) fn head(&mut self, region: Region, lead: Lead) -> Result<Head, Fault>
         requires short { end_of self.old.reader < 513 }
-        ensures { HeadTells (where_of region) far result self.old self.new }
+        ensures { HeadTells (where_of region) (far_of lead) result self.old self.new }
     {
         if let Some(at) = self.reader.accept(Symbol::Star) {
             begin(&mut self.table, region, at)?;
             return Ok(Head {
-                axis: usual_axis(far),
+                axis: lead.usual_axis(),
                 test: NodeTest::Element,
             });
         }
@@ -157,6 +155,6 @@ impl Parser<'_> {
             return Err(self.reader.unexpected());
         };
         begin(&mut self.table, region, word.at)?;
-        word_head(&mut self.reader, word, far)
+        word_head(&mut self.reader, word, lead)
     }
 }

@@ -11,37 +11,33 @@ pub mod parts;
 mod rows;
 
 use lexer::Reader;
-use parts::{Parser, Region};
+use parts::Parser;
 use query::fault::Fault;
 use query::parsed::Query;
-use query::table::{Axis, NodeTest, Predicate, Shape, Step, Table};
+use query::table::{Axis, NodeTest, Predicate, Region, Shape, Step, Table};
+
+const STEP: Step = Step {
+    slash: false,
+    axis: Axis::Child,
+    test: NodeTest::Element,
+    bracket: None,
+    next: None,
+};
+
+const PREDICATE: Predicate = Predicate {
+    negations: 0,
+    shape: Shape::Path(0),
+};
 
 // A table without rows.
-fn empty_table() -> Table
-    ensures outside { result.outside_count ≡ 0 }
-    ensures inside { result.inside_count ≡ 0 }
-    ensures predicates { result.predicate_count ≡ 0 }
-{
-    let step = Step {
-        slash: false,
-        axis: Axis::Child,
-        test: NodeTest::Element,
-        bracket: None,
-        next: None,
-    };
-    let predicate = Predicate {
-        negations: 0,
-        shape: Shape::Path(0),
-    };
-    Table {
-        outside: [step; 16],
-        outside_count: 0,
-        inside: [step; 23],
-        inside_count: 0,
-        predicates: [predicate; 46],
-        predicate_count: 0,
-    }
-}
+const EMPTY: Table = Table {
+    outside: [STEP; 16],
+    outside_count: 0,
+    inside: [STEP; 23],
+    inside_count: 0,
+    predicates: [PREDICATE; 46],
+    predicate_count: 0,
+};
 
 // The bytes of a text, and then zeros.
 fn copied(text: &[u8]) -> [u8; 512]
@@ -49,9 +45,7 @@ fn copied(text: &[u8]) -> [u8; 512]
     ensures { take (length text.now) result ≡ text.now }
 {
     let mut copy = [0; 512];
-    for (i, b) in text.iter().enumerate() {
-        copy[i] = *b;
-    }
+    copy[..text.len()].copy_from_slice(text);
     copy
 }
 
@@ -62,7 +56,7 @@ fn parsed(text: &[u8]) -> Result<Table, Fault>
 {
     let mut parser = Parser {
         reader: Reader::new(text),
-        table: empty_table(),
+        table: EMPTY,
     };
     parser.path(Region::Outside, 12)?;
     if parser.reader.at_end() {

@@ -1,26 +1,15 @@
 // Reading paths and predicates, which hold one another. The levels left bound how deep the calls stand in one another.
 ghost use Rattle.std.specs.Prelude.{◌≡◌};
 ghost use Rattle.grammar.specs.declared.tokens.Symbol.TheVariants.{RightBracket, RightParen};
-ghost use Rattle.reader.specs.Rows.{where_of};
-ghost use Rattle.reader.specs.Parsing.{Fit, Starts, slash_of, next_of, PathTells, StepTells, FilterTells, EnclosedTells, PredTells, ConjTells, UnitTells};
+ghost use Rattle.query.specs.Shown.{where_of};
+ghost use Rattle.reader.specs.Parsing.{Fit, Starts, next_of, PathTells, StepTells, FilterTells, EnclosedTells, PredTells, ConjTells, UnitTells};
 
-use super::heads::{is_far, lead};
-use super::parts::{Lead, Parser, Region};
+use super::heads::lead;
+use super::parts::{Lead, Parser};
 use super::rows::{negate, next_index, push, write_step};
 use grammar::tokens::Symbol;
 use query::fault::Fault;
-use query::table::{Predicate, Shape, Step, Table};
-
-// Whether a lead is a slash.
-fn is_slash(lead: Lead) -> bool
-    ensures { result ≡ slash_of lead }
-{
-    match lead {
-        Lead::Nothing => false,
-        Lead::Slash => true,
-        Lead::DoubleSlash => true,
-    }
-}
+use query::table::{Region, Shape, Step, Table};
 
 // The number of the step that it leads to.
 fn next_step(table: &Table, region: Region, lead: Lead) -> Option<u8>
@@ -28,8 +17,7 @@ fn next_step(table: &Table, region: Region, lead: Lead) -> Option<u8>
 {
     match lead {
         Lead::Nothing => None,
-        Lead::Slash => Some(next_index(table, region)),
-        Lead::DoubleSlash => Some(next_index(table, region)),
+        Lead::Slash | Lead::DoubleSlash => Some(next_index(table, region)),
     }
 }
 
@@ -42,10 +30,10 @@ impl Parser<'_> {
         ensures { PathTells (where_of region) levels result self.old self.new }
     {
         let mut before = lead(&mut self.reader);
-        let mut slash = is_slash(before);
+        let mut slash = before.is_slash();
         loop {
             let after = self.step(region, levels, before, slash)?;
-            if !is_slash(after) {
+            if !after.is_slash() {
                 return Ok(());
             }
             before = after;
@@ -60,7 +48,7 @@ impl Parser<'_> {
         ensures { StepTells (where_of region) levels before slash result self.old self.new }
     {
         let index = next_index(&self.table, region);
-        let head = self.head(region, is_far(before))?;
+        let head = self.head(region, before)?;
         let bracket = self.filter(levels)?;
         let after = lead(&mut self.reader);
         let next = next_step(&self.table, region, after);
@@ -82,10 +70,7 @@ impl Parser<'_> {
         ensures { FilterTells levels result self.old self.new }
     {
         match self.reader.accept(Symbol::LeftBracket) {
-            Some(at) => {
-                let inner = self.enclosed(levels, at, Symbol::RightBracket)?;
-                Ok(Some(inner))
-            }
+            Some(at) => Ok(Some(self.enclosed(levels, at, Symbol::RightBracket)?)),
             None => Ok(None),
         }
     }
@@ -115,13 +100,7 @@ impl Parser<'_> {
         let mut left = self.conjunction(levels)?;
         while self.reader.keyword(b"or") {
             let right = self.conjunction(levels)?;
-            left = push(
-                &mut self.table,
-                Predicate {
-                    negations: 0,
-                    shape: Shape::Or(left, right),
-                },
-            );
+            left = push(&mut self.table, Shape::Or(left, right));
         }
         Ok(left)
     }
@@ -135,13 +114,7 @@ impl Parser<'_> {
         let mut left = self.unit(levels)?;
         while self.reader.keyword(b"and") {
             let right = self.unit(levels)?;
-            left = push(
-                &mut self.table,
-                Predicate {
-                    negations: 0,
-                    shape: Shape::And(left, right),
-                },
-            );
+            left = push(&mut self.table, Shape::And(left, right));
         }
         Ok(left)
     }
@@ -162,12 +135,6 @@ impl Parser<'_> {
         }
         let first = self.table.inside_count;
         self.path(Region::Inside, levels)?;
-        Ok(push(
-            &mut self.table,
-            Predicate {
-                negations: 0,
-                shape: Shape::Path(first),
-            },
-        ))
+        Ok(push(&mut self.table, Shape::Path(first)))
     }
 }

@@ -2,13 +2,6 @@
 use lexer::Reader;
 use query::table::{Axis, NodeTest, Table};
 
-// Where a path stands: outside brackets or inside.
-#[derive(Clone, Copy, Debug, PartialEq, Eq)]
-pub enum Region {
-    Outside,
-    Inside,
-}
-
 // What leads to a step.
 #[derive(Clone, Copy, Debug, PartialEq, Eq)]
 pub enum Lead {

@@ -20,9 +20,7 @@ fn run(rt: &HostRuntime) -> anyhow::Result<()> {
     match read(text.as_slice()) {
         Ok(query) => print_spelling(rt, &query),
         Err(fault) => {
-            let code = fault.code();
-            let place = fault.place();
-            println!(rt; "refused {code} at {place}")?;
+            println!(rt; "{fault}")?;
             Ok(())
         }
     }

@@ -17,12 +17,14 @@ use query::parsed::Query;
 use spell::{step_at, write_steps};
 use writer::Writer;
 
-// The number of the refusal.
-pub fn code(fault: Fault) -> u8
-    ensures { result ≡ code_of fault }
-{
-    match fault {
-        Fault::Memory => 11,
+impl Fault {
+    // The number of the refusal.
+    pub fn code(self) -> u8
+        ensures { result ≡ code_of self }
+    {
+        match self {
+            Fault::Memory => 11,
+        }
     }
 }
 
@@ -63,9 +65,7 @@ fn written(query: &Query, memory: &mut [u8]) -> usize
     ensures { Written (query_of query.now) result memory.old memory.new }
 {
     let writer = spelled(query);
-    for i in 0..writer.len {
-        memory[i] = writer.bytes[i];
-    }
+    memory[..writer.len].copy_from_slice(&writer.bytes[..writer.len]);
     writer.len
 }
 

@@ -8,7 +8,7 @@ pub enum Fault {
 }
 
 // Where a predicate stands: alone, beside the right of `or` or the left of `and`, beside the right of `and`.
-#[derive(Clone, Copy, Debug, PartialEq, Eq)]
+#[derive(Clone, Copy, Debug, PartialEq, Eq, PartialOrd, Ord)]
 pub enum Place {
     Low,
     Middle,

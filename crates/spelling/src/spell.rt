@@ -144,32 +144,21 @@ fn write_close(writer: &mut Writer, wrapped: bool)
 fn or_wraps(place: Place) -> bool
     ensures { result ≡ or_wraps (place_of place) }
 {
-    match place {
-        Place::Low => false,
-        Place::Middle => true,
-        Place::High => true,
-    }
+    place > Place::Low
 }
 
 // Whether `and` stands in parentheses there.
 fn and_wraps(place: Place) -> bool
     ensures { result ≡ and_wraps (place_of place) }
 {
-    match place {
-        Place::Low => false,
-        Place::Middle => false,
-        Place::High => true,
-    }
+    place > Place::Middle
 }
 
 // A number, where it is above another.
 fn later(next: Option<u8>, index: u8) -> Option<u8>
     ensures { Later next index result }
 {
-    match next {
-        Some(k) => { if index < k { Some(k) } else { None } }
-        None => None,
-    }
+    next.filter(|k| index < *k)
 }
 
 // Writes the steps of a path, whose predicates are below `limit`.

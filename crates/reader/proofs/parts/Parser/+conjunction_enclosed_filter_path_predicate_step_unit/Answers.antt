@@ -11,8 +11,9 @@ use Rattle.query.specs.declared.table.Shape.TheVariants as shape
 use Rattle.lexer.specs.declared.Reader.{Reader}
 use Rattle.lexer.specs.Readers.{tokens_of, end_of}
 use Rattle.reader.specs.declared.parts.Parser.{Parser}
-use Rattle.reader.specs.Rows.{where_of, Pushes}
-use Rattle.reader.specs.Heads.{outer_left, inner_left, Onward, HeadTells}
+use Rattle.reader.specs.Rows.{Pushes}
+use Rattle.query.specs.Shown.{where_of}
+use Rattle.reader.specs.Heads.{outer_left, inner_left, Onward}
 use Rattle.reader.specs.Parsing.{Fit, PredRead, PathTells, EnclosedTells, PredTells, ConjTells, UnitTells, told, failed, Walked, slash_of}
 use Rattle.reader.proofs.Keeping.{on_moved, on_same, same_end, on_trans}
 use Rattle.reader.proofs.Telling.{with, holding, fit_with, pred_fit, enclosed_err, enclosed_ok, enclosed_none, filter_some, filter_none, not_unit, path_told, join_fit, join_gained, join_row, join_is, join_left, join_right, join_told}
@@ -112,8 +113,8 @@ enclosed-returns-in-Some t c = enclosed_ok c.args.levels c.args.at c.args.shut c
 pub enclosed-returns-in-None : goal.enclosed-returns-in-None
 enclosed-returns-in-None t c = enclosed_none c.args.levels c.args.at c.args.shut c.args.self.now c.predicate.new.self c.if-levels-eq0.false c.in_ok-inner.inner c.accept.new.self c.unexpected.result c.in_ok-inner.ensures c.in-None.ensures c.unexpected.ensures.code c.unexpected.ensures.place
 
-pub filter-returns-in_ok-inner-in-Some : goal.filter-returns-in_ok-inner-in-Some
-filter-returns-in_ok-inner-in-Some t c = filter_some c.args.levels c.in-Some.at c.in_ok-inner-in-Some.inner c.args.self.now c.enclosed.new.self c.accept.new.self c.requires.fit c.in-Some.ensures c.in_ok-inner-in-Some.ensures
+pub filter-returns-in_ok-enclosed-in-Some : goal.filter-returns-in_ok-enclosed-in-Some
+filter-returns-in_ok-enclosed-in-Some t c = filter_some c.args.levels c.in-Some.at c.in_ok-enclosed-in-Some.field-0 c.args.self.now c.enclosed.new.self c.accept.new.self c.requires.fit c.in-Some.ensures c.in_ok-enclosed-in-Some.ensures
 
 pub filter-returns-in-None : goal.filter-returns-in-None
 filter-returns-in-None t c = filter_none c.args.levels c.args.self.now c.accept.new.self c.requires.fit c.in-None.ensures
@@ -197,7 +198,7 @@ pub step-returns : goal.step-returns
 step-returns t c =
     let w = where_of c.args.region in
     let p = c.args.self.now in
-    let h = subst (λ f. HeadTells w f (Ok c.in_ok-head.head) p c.head.new.self) c.is_far.ensures c.in_ok-head.ensures in
+    let h = c.in_ok-head.ensures in
     let g = c.in_ok-bracket.ensures in
     step_read w c.args.levels c.args.before c.args.slash c.lead-after.result p c.head.new.self c.filter.new.self c.lead-after.new.reader c.write_step.new.table c.in_ok-head.head h.0 g.0 c.in_ok-bracket.bracket c.next_step-next.result c.next_index-index.result c.requires.fit h.1 g.1 c.lead-after.ensures c.next_index-index.ensures c.next_step-next.ensures c.write_step.ensures
 

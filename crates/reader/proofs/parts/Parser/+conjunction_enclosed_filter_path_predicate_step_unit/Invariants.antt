@@ -5,7 +5,7 @@ use Rattle.grammar.specs.Machine.{Before}
 use Rattle.grammar.specs.Descent as descent
 use Rattle.lexer.specs.Readers.{tokens_of, end_of}
 use Rattle.reader.specs.declared.parts.Parser.{Parser}
-use Rattle.reader.specs.Rows.{where_of}
+use Rattle.query.specs.Shown.{where_of}
 use Rattle.reader.specs.Heads.{outer_left, inner_left}
 use Rattle.reader.specs.Parsing.{Fit, PredRead, Walked, told}
 use Rattle.reader.proofs.parts.Parser.+conjunction_enclosed_filter_path_predicate_step_unit.Given as goal
