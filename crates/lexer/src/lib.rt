@@ -30,6 +30,7 @@ fn is_white(b: u8) -> bool
     matches!(b as char, ' ' | '\t' | '\n' | '\r')
 }
 
+// The bytes of a name are the language's own rule: `names`, which has the same of slots, is no part of it.
 fn is_begin(b: u8) -> bool
     ensures { result ≡ begins b }
 {

@@ -6,6 +6,7 @@ ghost use Rattle.query.specs.Shown.{shown_by};
 use super::table::Table;
 
 // The first `len` bytes of `text` are a text of the grammar within the limits, and the table shows its query.
+// The text stands in 512 bytes, with its length, since a query is copied and nothing is allocated.
 #[derive(Clone, Copy)]
 pub struct Query {
     pub text: [u8; 512],

@@ -51,7 +51,8 @@ pub struct Predicate {
 }
 
 // The steps outside brackets and those inside, each in the order of the text, and the predicates, each after those
-// that it joins and those in the brackets of its path.
+// that it joins and those in the brackets of its path. Each count stands beside rows of a fixed number, since a query
+// is copied and nothing is allocated.
 #[derive(Clone, Copy)]
 pub struct Table {
     pub outside: [Step; 16],

@@ -53,7 +53,8 @@ impl Lead {
     }
 }
 
-// The axis that a word names.
+// The axis that a word names. Each name is one `==`: a `match` on byte strings tests byte by byte, and its fifteen ways
+// out had no proof.
 fn axis_of(word: &[u8]) -> Option<Axis>
     ensures { AxisOf word.now result }
 {

@@ -91,7 +91,7 @@ impl Parser<'_> {
         }
     }
 
-    // Conjunctions joined by `or`.
+    // Conjunctions joined by `or`: a rule of the grammar beside `conjunction`, and each calls the rule below it.
     #[cycle(conjunction_enclosed_filter_path_predicate_step_unit)]
     fn predicate(&mut self, levels: u8) -> Result<u8, Fault>
         requires fit { Fit self.old }

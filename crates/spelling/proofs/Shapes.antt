@@ -13,7 +13,7 @@ use Rattle.query.specs.declared.table.Predicate.{Predicate}
 use Rattle.query.specs.Shown.{axis_of, ShowsTest, ShowsPath, ShowsFilter, ShowsPred, step_at, predicate_at, index, taken, within, preds_path, preds_filter, below}
 use Rattle.spelling.specs.declared.writer.Writer.{Writer}
 use Rattle.spelling.specs.Writing.{total, Emits}
-use Rattle.spelling.specs.Spellings.{most, lead_t, open_t, close_t, Part, part, rest_t, parts, root, ShowsFrom, preds_parts, nots, Later}
+use Rattle.spelling.specs.Spellings.{most, lead_t, Part, part, rest_t, parts, root, ShowsFrom, preds_parts, nots, Later, only}
 use Rattle.spelling.proofs.Writes.{emits, emits_none}
 
 never : {X : Type 0} (o : Option ℕ) (k : ℕ) → o ≡ Some k → o ≡ None → X
@@ -21,6 +21,15 @@ never o k h g = let z : ◌≡◌ {A = ℕ} 0 1 = cc in absurd (omega arith)
 
 one_some : (o : Option ℕ) (j k : ℕ) → o ≡ Some j → o ≡ Some k → j ≡ k
 one_some o j k h g = cc
+
+-- a row that is there where P, by what was read of it
+pub row : {X P : Type 0} (o : Option X) (r s : X) → o ≡ Some r → (P → o ≡ Some s) → P → r ≡ s
+row o r s e f p = let h = f p in cc
+
+pub no_row : {X P Y : Type 0} (o : Option X) (s : X) → o ≡ None → (P → o ≡ Some s) → P → Y
+no_row o s e f p =
+    let h = f p in
+    let z : ◌≡◌ {A = ℕ} 0 1 = cc in absurd (omega arith)
 
 module _ (bs : List ℕ) (q : Table) where
   pub filter_none : (o : Option ℕ) (f : Filter) (a c : ℕ) (v : Writer) → o ≡ None → ShowsFilter bs q o f a c → Emits (filter_t f) v v
@@ -62,6 +71,10 @@ module _ (bs : List ℕ) (q : Table) where
         omega arith,
         λ us. emits (lead_t led b) (λ ts. test_t t (filter_t f ts)) v x u (subst (λ k. Emits (lead_t led k) v x) ax fa) (emits (test_t t) (filter_t f) x y u te fi) (rest_t true ps us),
       )
+
+  pub step_there : (w : Where) (o : Option ℕ) (i : ℕ) (ps : List Part) (s a c : ℕ) → o ≡ Some i → ShowsFrom w bs q o ps s a c → i < most w
+  step_there w o i [] s a c e h = never o i e h
+  step_there w o i (part b t f ∷ ps) s a c e h = subst (λ k. k < most w) (sym (one_some o i (index w s a) e h.0)) h.1
 
   pub step_last : (w : Where) (o : Option ℕ) (led : Bool) (ps : List Part) (s a c : ℕ) (v : Writer) → o ≡ None → ShowsFrom w bs q o ps s a c → (us : List Token) → total v (rest_t led ps us) ≡ total v us
   step_last w o led [] s a c v e h us = refl
@@ -149,21 +162,31 @@ module _ (bs : List ℕ) (q : Table) where
   path_shape (and p x) n a c i b k v w z e lt ha en h es sl g = let eq = shape_is i _ (shape.Path b) _ e es h.0 in let o : ◌≡◌ {A = ℕ} 0 1 = cc in absurd (omega arith)
   path_shape (or p x) n a c i b k v w z e lt ha en h es sl g = let eq = shape_is i _ (shape.Path b) _ e es h.0 in let o : ◌≡◌ {A = ℕ} 0 1 = cc in absurd (omega arith)
 
-  wrap_is : (b : Bool) (f : List Token → List Token) (us : List Token) → wrap b f us ≡ open_t b (f (close_t b us))
+  -- a path's first row is there
+  pub path_there : (x : Pred) (n a c i b : ℕ) → i ≡ c + below x → a + in_pred x ≤ 23 → nots x ≡ 0 → ShowsPred bs q x n a c → (predicate_at q i).shape ≡ shape.Path b → b < 23
+  path_there (some x) n a c i b e ha en h es =
+      let eq = shape_is i (c + preds_path x) (shape.Path b) _ e es h.0 in
+      let is : b ≡ a = cc in
+      omega (arith, own_one x)
+  path_there (not p) n a c i b e ha en h es = absurd (omega (arith, en))
+  path_there (and p x) n a c i b e ha en h es = let eq = shape_is i _ (shape.Path b) _ e es h.0 in let o : ◌≡◌ {A = ℕ} 0 1 = cc in absurd (omega arith)
+  path_there (or p x) n a c i b e ha en h es = let eq = shape_is i _ (shape.Path b) _ e es h.0 in let o : ◌≡◌ {A = ℕ} 0 1 = cc in absurd (omega arith)
+
+  wrap_is : (b : Bool) (f : List Token → List Token) (us : List Token) → wrap b f us ≡ only LeftParen b (f (only RightParen b us))
   wrap_is true f us = refl
   wrap_is false f us = refl
 
   -- two predicates joined by a word
-  joined : (b : Bool) (z : List ℕ) (f g : List Token → List Token) (v w u y x r : Writer) → Emits (open_t b) v w → Emits f w u → Emits (λ us. word z ∷ us) u y → Emits g y x → Emits (close_t b) x r → Emits (λ us. wrap b (λ vs. f (word z ∷ g vs)) us) v r
+  joined : (b : Bool) (z : List ℕ) (f g : List Token → List Token) (v w u y x r : Writer) → Emits (only LeftParen b) v w → Emits f w u → Emits (λ us. word z ∷ us) u y → Emits g y x → Emits (only RightParen b) x r → Emits (λ us. wrap b (λ vs. f (word z ∷ g vs)) us) v r
   joined b z f g v w u y x r f1 f2 f3 f4 f5 us h =
       let eqn = wrap_is b (λ vs. f (word z ∷ g vs)) us in
-      ap (total v) eqn ∙ emits (open_t b) (λ us. f (word z ∷ g (close_t b us))) v w r f1 (emits f (λ us. word z ∷ g (close_t b us)) w u r f2 (emits (λ us. word z ∷ us) (λ us. g (close_t b us)) u y r f3 (emits g (close_t b) y x r f4 f5))) us (subst (λ l. length (total v l) ≤ 512) eqn h)
+      ap (total v) eqn ∙ emits (only LeftParen b) (λ us. f (word z ∷ g (only RightParen b us))) v w r f1 (emits f (λ us. word z ∷ g (only RightParen b us)) w u r f2 (emits (λ us. word z ∷ us) (λ us. g (only RightParen b us)) u y r f3 (emits g (only RightParen b) y x r f4 f5))) us (subst (λ l. length (total v l) ≤ 512) eqn h)
 
   abbrev Told : ℕ → Place → Writer → Writer → Type 0
   Told i k v w = (x : Pred) (a c : ℕ) → i ≡ c + below x → i < 46 → a + in_pred x ≤ 23 → ShowsPred bs q x 0 a c → Emits (pred_t x k) v w
 
   pub and_shape : (x : Pred) (n a c i l r : ℕ) (k : Place) (b : Bool) (v w u y z s : Writer) → i ≡ c + below x → i < 46 → a + in_pred x ≤ 23 → nots x ≡ 0 → ShowsPred bs q x n a c → (predicate_at q i).shape ≡ shape.And l r → b ≡ and_wraps k
-      → Emits (open_t b) v w → Told l mid w u → Emits (λ us. word and_word ∷ us) u y → Told r high y z → Emits (close_t b) z s → Emits (pred_t x k) v s
+      → Emits (only LeftParen b) v w → Told l mid w u → Emits (λ us. word and_word ∷ us) u y → Told r high y z → Emits (only RightParen b) z s → Emits (pred_t x k) v s
   and_shape (some x) n a c i l r k b v w u y z s e lt ha en h es eb f1 f2 f3 f4 f5 = let eq = shape_is i _ (shape.And l r) _ e es h.0 in let o : ◌≡◌ {A = ℕ} 0 1 = cc in absurd (omega arith)
   and_shape (not p) n a c i l r k b v w u y z s e lt ha en h es eb f1 f2 f3 f4 f5 = absurd (omega (arith, en))
   and_shape (and p x) n a c i l r k b v w u y z s e lt ha en h es eb f1 f2 f3 f4 f5 =
@@ -175,7 +198,7 @@ module _ (bs : List ℕ) (q : Table) where
   and_shape (or p x) n a c i l r k b v w u y z s e lt ha en h es eb f1 f2 f3 f4 f5 = let eq = shape_is i _ (shape.And l r) _ e es h.0 in let o : ◌≡◌ {A = ℕ} 0 1 = cc in absurd (omega arith)
 
   pub or_shape : (x : Pred) (n a c i l r : ℕ) (k : Place) (b : Bool) (v w u y z s : Writer) → i ≡ c + below x → i < 46 → a + in_pred x ≤ 23 → nots x ≡ 0 → ShowsPred bs q x n a c → (predicate_at q i).shape ≡ shape.Or l r → b ≡ or_wraps k
-      → Emits (open_t b) v w → Told l low w u → Emits (λ us. word or_word ∷ us) u y → Told r mid y z → Emits (close_t b) z s → Emits (pred_t x k) v s
+      → Emits (only LeftParen b) v w → Told l low w u → Emits (λ us. word or_word ∷ us) u y → Told r mid y z → Emits (only RightParen b) z s → Emits (pred_t x k) v s
   or_shape (some x) n a c i l r k b v w u y z s e lt ha en h es eb f1 f2 f3 f4 f5 = let eq = shape_is i _ (shape.Or l r) _ e es h.0 in let o : ◌≡◌ {A = ℕ} 0 1 = cc in absurd (omega arith)
   or_shape (not p) n a c i l r k b v w u y z s e lt ha en h es eb f1 f2 f3 f4 f5 = absurd (omega (arith, en))
   or_shape (and p x) n a c i l r k b v w u y z s e lt ha en h es eb f1 f2 f3 f4 f5 = let eq = shape_is i _ (shape.Or l r) _ e es h.0 in let o : ◌≡◌ {A = ℕ} 0 1 = cc in absurd (omega arith)

@@ -1,6 +1,7 @@
 -- The parts of a spelling.
 use Rattle.std.specs.Prelude.{◌≡◌, ℕ, ◌+◌, ◌<◌, ◌≤◌, Bool, true, false, List, [], ◌∷◌, Some, None, Option}
-use Rattle.grammar.specs.declared.tokens.Symbol.TheVariants.{Slash, LeftParen, RightParen, DoubleColon}
+use Rattle.grammar.specs.declared.tokens.Symbol.{Symbol}
+use Rattle.grammar.specs.declared.tokens.Symbol.TheVariants.{LeftParen, RightParen, DoubleColon}
 use Rattle.grammar.specs.Tokens.{Token, symbol, word}
 use Rattle.grammar.specs.Syntax.{Axis, NodeTest, Path, first, more, Filter, Pred, some, not, and, or, in_filter}
 use Rattle.grammar.specs.Machine.{Where, outer, inner}
@@ -9,10 +10,6 @@ use Rattle.query.specs.declared.table.Table.{Table}
 use Rattle.query.specs.Shown.{axis_of, ShowsTest, ShowsFilter, step_at, index, taken, preds_filter}
 use Rattle.spelling.specs.declared.parts.Place.TheVariants.{Low, Middle, High}
 use Rattle.spelling.specs.declared.parts.Place as places
-
-abbrev pub where_in : Bool → Where
-where_in true = inner
-where_in false = outer
 
 abbrev pub place_of : places.Place → Place
 place_of Low = low
@@ -37,17 +34,10 @@ type_t z us = word z ∷ symbol LeftParen ∷ symbol RightParen ∷ us
 abbrev pub name_t : List ℕ → List Token → List Token
 name_t z us = word z ∷ us
 
-abbrev pub slash_only : Bool → List Token → List Token
-slash_only true us = symbol Slash ∷ us
-slash_only false us = us
-
-abbrev pub open_t : Bool → List Token → List Token
-open_t true us = symbol LeftParen ∷ us
-open_t false us = us
-
-abbrev pub close_t : Bool → List Token → List Token
-close_t true us = symbol RightParen ∷ us
-close_t false us = us
+-- a symbol, where it is wanted
+abbrev pub only : Symbol → Bool → List Token → List Token
+only s true us = symbol s ∷ us
+only s false us = us
 
 -- the steps of a path, from one on
 pub data Part : Type 0 where

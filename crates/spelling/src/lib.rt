@@ -14,7 +14,8 @@ pub mod writer;
 
 use parts::Fault;
 use query::parsed::Query;
-use spell::{step_at, write_steps};
+use query::table::Region;
+use spell::step_at;
 use writer::Writer;
 
 impl Fault {
@@ -28,33 +29,23 @@ impl Fault {
     }
 }
 
-// Nothing written.
-fn fresh() -> Writer
-    ensures len { result.len ≡ 0 }
-    ensures word { result.word ≡ false }
-{
-    Writer {
-        bytes: [0; 512],
-        len: 0,
-        word: false,
-    }
-}
-
 // Writes the whole spelling, with a writer that has written nothing.
 fn spell_whole(writer: &mut Writer, query: &Query)
     requires len { writer.old.len ≡ 0 }
     requires word { writer.old.word ≡ false }
     ensures { take writer.new.len writer.new.bytes ≡ short (query_of query.now) }
 {
-    let slash = step_at(query, false, 0).slash;
-    write_steps(writer, query, false, Some(0), slash, 46);
+    let Some(step) = step_at(query, Region::Outside, 0) else {
+        return;
+    };
+    writer.write_steps(query, Region::Outside, Some(0), step.slash, 46);
 }
 
 // The whole spelling.
 fn spelled(query: &Query) -> Writer
     ensures { take result.len result.bytes ≡ short (query_of query.now) }
 {
-    let mut writer = fresh();
+    let mut writer = Writer::new();
     spell_whole(&mut writer, query);
     writer
 }

@@ -1,40 +1,12 @@
 // Writing tokens.
-ghost use Rattle.std.specs.Prelude.{◌≡◌, [], ◌∷◌};
+ghost use Rattle.std.specs.Prelude.{◌≡◌, false, [], ◌∷◌};
 ghost use Rattle.grammar.specs.Tokens.{symbol, word};
 ghost use Rattle.grammar.specs.Spelling.{glyph};
+ghost use Rattle.spelling.specs.Spellings.{only};
 ghost use Rattle.spelling.specs.Writing.{Puts, Emits, gap_of};
 
 use super::writer::Writer;
 use grammar::tokens::Symbol;
-
-// One byte more, where there is room.
-fn put(writer: &mut Writer, byte: u8)
-    ensures { Puts (byte ∷ []) writer.old writer.new }
-{
-    let at = writer.len;
-    if at < 512 {
-        writer.bytes[at] = byte;
-        writer.len = at + 1;
-    }
-}
-
-// A space after a word.
-fn space(writer: &mut Writer)
-    ensures { Puts (gap_of writer.old.word) writer.old writer.new }
-{
-    if writer.word {
-        put(writer, b' ');
-    }
-}
-
-// The bytes, where there is room.
-fn puts(writer: &mut Writer, bytes: &[u8])
-    ensures { Puts bytes.now writer.old writer.new }
-{
-    for byte in bytes {
-        put(writer, *byte);
-    }
-}
 
 // The characters of a symbol.
 fn glyph_of(which: Symbol) -> &'static [u8]
@@ -52,19 +24,71 @@ fn glyph_of(which: Symbol) -> &'static [u8]
     }
 }
 
-// Writes a symbol.
-pub(crate) fn write_symbol(writer: &mut Writer, which: Symbol)
-    ensures { Emits (λ us. symbol which ∷ us) writer.old writer.new }
-{
-    puts(writer, glyph_of(which));
-    writer.word = false;
-}
+impl Writer {
+    // Nothing written.
+    pub(crate) fn new() -> Writer
+        ensures len { result.len ≡ 0 }
+        ensures word { result.word ≡ false }
+    {
+        Writer {
+            bytes: [0; 512],
+            len: 0,
+            word: false,
+        }
+    }
 
-// Writes a word, with a space before it where a word stands before it.
-pub(crate) fn write_word(writer: &mut Writer, bytes: &[u8])
-    ensures { Emits (λ us. word bytes.now ∷ us) writer.old writer.new }
-{
-    space(writer);
-    puts(writer, bytes);
-    writer.word = true;
+    // One byte more, where there is room.
+    fn put(&mut self, byte: u8)
+        ensures { Puts (byte ∷ []) self.old self.new }
+    {
+        let at = self.len;
+        if at < 512 {
+            self.bytes[at] = byte;
+            self.len = at + 1;
+        }
+    }
+
+    // A space after a word.
+    fn space(&mut self)
+        ensures { Puts (gap_of self.old.word) self.old self.new }
+    {
+        if self.word {
+            self.put(b' ');
+        }
+    }
+
+    // The bytes, where there is room.
+    fn puts(&mut self, bytes: &[u8])
+        ensures { Puts bytes.now self.old self.new }
+    {
+        for byte in bytes {
+            self.put(*byte);
+        }
+    }
+
+    // Writes a symbol.
+    pub(crate) fn write_symbol(&mut self, which: Symbol)
+        ensures { Emits (λ us. symbol which ∷ us) self.old self.new }
+    {
+        self.puts(glyph_of(which));
+        self.word = false;
+    }
+
+    // Writes a symbol where it is wanted.
+    pub(crate) fn write_if(&mut self, wanted: bool, which: Symbol)
+        ensures { Emits (only which wanted) self.old self.new }
+    {
+        if wanted {
+            self.write_symbol(which);
+        }
+    }
+
+    // Writes a word, with a space before it where a word stands before it.
+    pub(crate) fn write_word(&mut self, bytes: &[u8])
+        ensures { Emits (λ us. word bytes.now ∷ us) self.old self.new }
+    {
+        self.space();
+        self.puts(bytes);
+        self.word = true;
+    }
 }

@@ -1,7 +1,7 @@
 // What has been written of a spelling.
 ghost use Rattle.std.specs.Prelude.{◌≡◌, ◌≤◌, length};
 
-// `word`: a word was written last.
+// `word`: a word was written last. The bytes stand in the writer, with their number, since nothing is allocated.
 #[derive(Clone, Copy)]
 pub struct Writer {
     pub bytes: [u8; 512],

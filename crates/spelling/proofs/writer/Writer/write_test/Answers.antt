@@ -8,7 +8,7 @@ use Rattle.query.specs.Queries.{text_of}
 use Rattle.query.proofs.Shown.{query_reads}
 use Rattle.spelling.specs.Writing.{Emits}
 use Rattle.spelling.proofs.Slices.{slice}
-use Rattle.spelling.proofs.spell.write_test.Goals as goal
+use Rattle.spelling.proofs.writer.Writer.write_test.Goals as goal
 
 pub returns-in-Name : goal.returns-in-Name
 returns-in-Name c t h =
@@ -18,4 +18,4 @@ returns-in-Name c t h =
     let len = c.in-Name.len in
     let short = (sound (text_of q) (path_in (text_of q)) (query_reads q)).short in
     let z = slice at len q.len q.text k.0 in
-    subst (λ x. Emits (test_t x) c.args.writer.now c.write_name.new.writer) (sym (k.1 ∙ ap name z)) (c.write_name.ensures (omega (arith, k.0, short)))
+    subst (λ x. Emits (test_t x) c.args.self.now c.write_name.new.self) (sym (k.1 ∙ ap name z)) (c.write_name.ensures (omega (arith, k.0, short)))
