@@ -8,15 +8,12 @@ mod tests {
     use program::deciding::decided;
 
     fn grants(bytes: &[u8]) -> bool {
-        match check_program(bytes) {
-            Ok(()) => true,
-            Err(_) => false,
-        }
+        check_program(bytes).is_ok()
     }
 
     // the front of the bytes, so many
     fn grants_front(bytes: &[u8], length: usize) -> bool {
-        length <= bytes.len() && grants(&bytes[0..length])
+        bytes.get(..length).is_some_and(grants)
     }
 
     #[test]
@@ -81,8 +78,8 @@ mod tests {
     }
 
     fn put(bytes: &mut [u8], at: usize, byte: u8) {
-        if at < bytes.len() {
-            bytes[at] = byte;
+        if let Some(place) = bytes.get_mut(at) {
+            *place = byte;
         }
     }
 

@@ -53,7 +53,8 @@ fn put_bracket(query: &Query, out: &mut Writer<'_>, bracket: Option<u8>)
     }
 }
 
-// What the step after says besides, if there is one.
+// What the step after says besides, if there is one. A closure for what follows the AND would need the clauses of both
+// calls as its own, so put_bracket stands beside it.
 fn put_next(query: &Query, out: &mut Writer<'_>, next: Option<u8>)
     requires good { GoodNext query.now.table next }
     requires room { HasRoom out.old (length (both_code (next_says query.now.table next))) }

@@ -4,23 +4,26 @@
 #[cfg(test)]
 mod tests {
     use program::check::check as check_program;
+    use query::parsed::Query;
     use std::process::Abort;
     use std::test::Fail;
 
+    fn read(text: &[u8]) -> Result<Query, Fail> {
+        reader::read(text).map_err(|_| Fail::new("not read"))
+    }
+
+    // Reads and translates the text, and gives the number of the bytes.
+    fn translate(text: &[u8], names: &[[u8; 32]], out: &mut [u8]) -> Result<usize, Fail> {
+        translate::translate(&read(text)?, names, out).map_err(|_| Fail::new("not translated"))
+    }
+
     // The text is read and translated, and the check of programs accepts the bytes; those after them are as before.
     fn translated(rt: &impl Abort, text: &[u8], names: &[[u8; 32]]) -> Result<usize, Fail> {
-        let Ok(query) = reader::read(text) else {
-            return Err(Fail::new("not read"));
-        };
         let mut out = [0x55_u8; 2060];
-        let Ok(end) = translate::translate(&query, names, &mut out) else {
-            return Err(Fail::new("not translated"));
-        };
+        let end = translate(text, names, &mut out)?;
         assert!(rt; end <= 2048);
-        assert!(rt; check_program(&out[0..end]).is_ok());
-        for i in end..2060 {
-            assert_eq!(rt; out[i], 0x55);
-        }
+        assert!(rt; check_program(&out[..end]).is_ok());
+        assert!(rt; out[end..].iter().all(|&byte| byte == 0x55));
         Ok(end)
     }
 
@@ -31,15 +34,10 @@ mod tests {
         names: &[[u8; 32]],
         expected: &[u8],
     ) -> Result<(), Fail> {
-        let Ok(query) = reader::read(text) else {
-            return Err(Fail::new("not read"));
-        };
         let mut out = [0_u8; 2048];
-        let Ok(end) = translate::translate(&query, names, &mut out) else {
-            return Err(Fail::new("not translated"));
-        };
+        let end = translate(text, names, &mut out)?;
         assert!(rt; end <= 2048);
-        assert!(rt; &out[0..end] == expected);
+        assert!(rt; &out[..end] == expected);
         Ok(())
     }
 
@@ -77,17 +75,13 @@ mod tests {
 
     #[test]
     fn refused(rt: HostRuntime) -> Result<(), Fail> {
-        let Ok(query) = reader::read(b"a") else {
-            return Err(Fail::new("not read"));
-        };
+        let query = read(b"a")?;
         let mut out = [7_u8; 2047];
         match translate::translate(&query, &[], &mut out) {
             Ok(_) => Err(Fail::new("granted")),
             Err(fault) => {
                 assert_eq!(rt; fault.code(), 11);
-                for i in 0..2047 {
-                    assert_eq!(rt; out[i], 7);
-                }
+                assert!(rt; out.iter().all(|&byte| byte == 7));
                 Ok(())
             }
         }
