@@ -1,9 +1,7 @@
 // The two tables of excess, by the value of a byte.
-ghost use Rattle.std.specs.Prelude.{◌≡◌};
-ghost use Rattle.excess.specs.Excess.{total_of, least_of};
 
 // the whole excess of each byte
-const TOTAL: [i8; 256] = [
+pub(crate) const TOTAL: [i8; 256] = [
     -8, -6, -6, -4, -6, -4, -4, -2, -6, -4, -4, -2, -4, -2, -2, 0, -6, -4, -4, -2, -4, -2, -2, 0,
     -4, -2, -2, 0, -2, 0, 0, 2, -6, -4, -4, -2, -4, -2, -2, 0, -4, -2, -2, 0, -2, 0, 0, 2, -4, -2,
     -2, 0, -2, 0, 0, 2, -2, 0, 0, 2, 0, 2, 2, 4, -6, -4, -4, -2, -4, -2, -2, 0, -4, -2, -2, 0, -2,
@@ -17,7 +15,7 @@ const TOTAL: [i8; 256] = [
 ];
 
 // the least excess over a byte's prefixes of one bit or more
-const LEAST: [i8; 256] = [
+pub(crate) const LEAST: [i8; 256] = [
     -8, -7, -6, -6, -6, -5, -5, -5, -6, -5, -4, -4, -4, -4, -4, -4, -6, -5, -4, -4, -4, -3, -3, -3,
     -4, -3, -3, -3, -3, -3, -3, -3, -6, -5, -4, -4, -4, -3, -3, -3, -4, -3, -2, -2, -2, -2, -2, -2,
     -4, -3, -2, -2, -2, -2, -2, -2, -2, -2, -2, -2, -2, -2, -2, -2, -6, -5, -4, -4, -4, -3, -3, -3,
@@ -29,15 +27,3 @@ const LEAST: [i8; 256] = [
     -1, -1, -1, -2, -1, 0, 0, 0, 0, 0, 0, -2, -1, 0, 0, 0, 1, 1, 1, 0, 1, 1, 1, 1, 1, 1, 1, -2, -1,
     0, 0, 0, 1, 1, 1, 0, 1, 1, 1, 1, 1, 1, 1, 0, 1, 1, 1, 1, 1, 1, 1, 1, 1, 1, 1, 1, 1, 1, 1,
 ];
-
-pub(crate) fn total_at(b: u8) -> i8
-    ensures { result ≡ total_of b }
-{
-    TOTAL[b as usize]
-}
-
-pub(crate) fn least_at(b: u8) -> i8
-    ensures { result ≡ least_of b }
-{
-    LEAST[b as usize]
-}

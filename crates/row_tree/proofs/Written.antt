@@ -1,44 +1,65 @@
 -- Writing stored rows one after the other.
-use Rattle.std.proofs.Common.{◌≡◌, ℕ, zero, suc, ◌+◌, ◌-◌, ◌<◌, ◌≤◌, List, [], ◌∷◌, ◌++◌, length, get_or, take, drop, set, sym, refl, ap, ◌∙◌, subst, arith}
+use Rattle.std.proofs.Common.{◌≡◌, ℕ, zero, suc, ◌+◌, ◌<◌, ◌≤◌, List, [], ◌∷◌, ◌++◌, length, get_or, take, drop, set, sym, refl, ap, ◌∙◌, subst, arith}
 use lib.Seq.{drop-nil}
 use Rattle.std.proofs.lemmas.List.{take_all, take-append-le}
 use Rattle.rows.specs.Rows.{Row, count_of, Lawful}
 use Rattle.rows.specs.Answers.{size_of}
 use Rattle.stored.specs.declared.row.StoredRow.{StoredRow}
-use Rattle.stored.specs.Stored.{at, distance_of, stored_of, rows_of, OfTree}
-use Rattle.stored.specs.Fits.{Ended, Fits}
+use Rattle.stored.specs.Stored.{at, distance_of, stored_at, stored_of, rows_of, OfTree}
+use Rattle.stored.specs.Fits.{Ended, parent_of, Fits}
 use Rattle.stored.proofs.Subtrees.{size_within}
 use Rattle.stored.proofs.Kept.{stored_length, stored_read, stores, rows_kept}
-use Rattle.stored.proofs.Passed.{fits, root_size, climb, not_root, same_parent}
+use Rattle.stored.proofs.Passed.{fits, root_size, same_parent}
 
 pub size_fits : (rs : List Row) (q : ℕ) → Lawful rs → q < count_of rs → q + size_of rs q ≤ 8192
 size_fits rs q l h = let w = size_within rs q h in let f = l.few in omega arith
+
+-- a row fits by the rows up to it alone
+fits_same : (es os : List StoredRow) (v : ℕ) → ((j : ℕ) → j ≤ v → at es j ≡ at os j) → Fits es v → Fits os v
+fits_same es os v e f =
+    let here = e v (omega arith) in
+    let label = ap (λ (x : StoredRow). x.label) here in
+    let distance = ap (λ (x : StoredRow). x.distance) here in
+    let size = ap (λ (x : StoredRow). x.size) here in
+    let above : parent_of es v ≡ parent_of os v = omega arith in
+    let there : at es (parent_of es v) ≡ at os (parent_of os v) = e (parent_of es v) (omega arith) ∙ ap (at os) above in
+    let end = ap (λ (x : StoredRow). x.size) there in
+    record {
+      low_label = omega (arith, f.low_label);
+      high_label = omega (arith, f.high_label);
+      some = omega (arith, f.some);
+      back = omega (arith, f.back);
+      before = omega (arith, f.before);
+      no_text = λ t. f.no_text (ap (λ (x : StoredRow). x.label) there ∙ t);
+      within = omega (arith, f.within);
+      ended = λ j a b. let k = ap (λ (x : StoredRow). x.size) (e j (omega arith)) in let n = f.ended j (omega arith) b in omega arith;
+    }
 
 module _ (rs : List Row) (l : Lawful rs) (v : ℕ) (h : v < count_of rs) where
   fits_at : (q : ℕ) → 0 < q → q ≤ v → Fits (stored_of rs) q
   fits_at q z le = fits rs l (stored_of rs) (stores rs l) q z (omega (arith, stored_length rs))
 
-  size_read : (q : ℕ) → q < count_of rs → (at (stored_of rs) q).size ≡ size_of rs q
-  size_read q b = ap (λ (e : StoredRow). e.size) (stored_read rs q b)
+  -- rows of which those before v have been written
+  module _ (es : List StoredRow) (known : (j : ℕ) → j < v → at es j ≡ stored_at rs j) where
+    same : (j : ℕ) → j < v → at (stored_of rs) j ≡ at es j
+    same j b = stored_read rs j (omega arith) ∙ sym (known j b)
 
-  far_read : (q : ℕ) → q < count_of rs → (at (stored_of rs) q).distance ≡ distance_of rs q
-  far_read q b = ap (λ (e : StoredRow). e.distance) (stored_read rs q b)
+    pub fits_known : (q : ℕ) → 0 < q → q < v → Fits es q
+    fits_known q z b = fits_same (stored_of rs) es q (λ j le. same j (omega arith)) (fits_at q z (omega arith))
 
-  pub climb_step : (q : ℕ) → q < v → Ended (stored_of rs) q v → q + size_of rs q ≤ v → (1 ≤ distance_of rs q) × (distance_of rs q ≤ q) × Ended (stored_of rs) (q - distance_of rs q) v
-  climb_step q lt ended end =
-      let s = size_read q (omega arith) in
-      let z = not_root (stored_of rs) v q (root_size rs l (stored_of rs) (stores rs l)) (omega (arith, stored_length rs)) (omega arith) in
-      let f = fits_at q z (omega arith) in
-      let d = far_read q (omega arith) in
-      (omega (arith, f.back), omega (arith, f.before), subst (λ x. Ended (stored_of rs) (q - x) v) d (climb (stored_of rs) v q lt (omega arith) f ended))
+    pub root_known : 0 < v → v < (at es 0).size
+    root_known z =
+        let size = ap (λ (e : StoredRow). e.size) (same 0 z) in
+        omega (arith, root_size rs l (stored_of rs) (stores rs l), stored_length rs)
 
-  pub climb_end : (q : ℕ) → q < v → Ended (stored_of rs) q v → v < q + size_of rs q → q + distance_of rs v ≡ v
-  climb_end q lt ended on =
-      let s = size_read q (omega arith) in
-      let f = fits_at v (omega arith) (omega arith) in
-      let d = far_read v h in
-      let e = same_parent (stored_of rs) v q lt (omega arith) ended f in
-      omega (arith, f.before)
+    -- v's parent is found from them
+    pub parent_known : (q : ℕ) → q < v → v < q + (at es q).size → Ended es q v → q + distance_of rs v ≡ v
+    parent_known q lt on ended =
+        let size : (at (stored_of rs) q).size ≡ (at es q).size = ap (λ (e : StoredRow). e.size) (same q lt) in
+        let f = fits_at v (omega arith) (omega arith) in
+        let d : (at (stored_of rs) v).distance ≡ distance_of rs v = ap (λ (e : StoredRow). e.distance) (stored_read rs v h) in
+        let e = same_parent (stored_of rs) v q lt (omega arith) (λ j a b. let k = ap (λ (x : StoredRow). x.size) (same j b) in let n = ended j a b in omega arith) f in
+        omega (arith, f.before)
 
 pub fill_more : {A : Type 0} (es os : List A) (v : ℕ) (d : A) → v < length es → v < length os → set (take v es ++ drop v os) v (get_or es v d) ≡ take (suc v) es ++ drop (suc v) os
 fill_more [] os v d a b = absurd (omega arith)

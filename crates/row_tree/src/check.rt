@@ -1,8 +1,9 @@
 // Whether stored rows are those of a tree: one pass, each row against those before it.
 ghost use Rattle.std.specs.Prelude.{◌≡◌, ℕ, ◌+◌, ◌<◌, ◌&&◌, length, Decides, ◌==◌};
 ghost use Rattle.stored.specs.Stored.{at, OfTree};
-ghost use Rattle.stored.specs.Fits.{Ended, Fits};
+ghost use Rattle.stored.specs.Fits.{Fits};
 
+use crate::parents::{end_of, parent};
 use stored::row::StoredRow;
 
 pub(crate) fn of_tree(rows: &[StoredRow]) -> bool
@@ -47,29 +48,4 @@ fn fits(rows: &[StoredRow], v: usize) -> bool
         return false;
     }
     end_of(rows, v) <= end_of(rows, p)
-}
-
-// The last row before v whose subtree goes on at v.
-fn parent(rows: &[StoredRow], v: usize) -> usize
-    requires after { 0 < v }
-    requires within { v < length rows.now }
-    requires root { (at rows.now 0).size ≡ length rows.now }
-    requires earlier { (j : ℕ) → 0 < j → j < v → Fits rows.now j }
-    ensures before { result < v }
-    ensures goes_on { v < result + (at rows.now result).size }
-    ensures ended { Ended rows.now result v }
-{
-    let mut q = v - 1;
-    while end_of(rows, q) <= v {
-        q -= rows[q].distance as usize;
-    }
-    q
-}
-
-// The number after the last of v's subtree.
-fn end_of(rows: &[StoredRow], v: usize) -> usize
-    requires { v < length rows.now }
-    ensures { result ≡ v + (at rows.now v).size }
-{
-    v + rows[v].size as usize
 }

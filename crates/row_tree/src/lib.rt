@@ -9,6 +9,7 @@ ghost use Rattle.stored.specs.Claims.{TreesKnown};
 ghost use Rattle.row_tree.specs.Loading.{Loads};
 
 mod check;
+mod parents;
 pub mod row_tree;
 pub mod write;
 

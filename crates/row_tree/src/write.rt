@@ -1,9 +1,10 @@
 // Writing any tree as stored rows.
-ghost use Rattle.std.specs.Prelude.{◌≡◌, ℕ, ◌+◌, ◌<◌, ◌≤◌, length};
+ghost use Rattle.std.specs.Prelude.{◌≡◌, ℕ, ◌<◌, ◌≤◌, length};
 ghost use Rattle.rows.specs.Rows.{count_of};
-ghost use Rattle.stored.specs.Stored.{at, distance_of, stored_at};
+ghost use Rattle.stored.specs.Stored.{at, stored_at};
 ghost use Rattle.row_tree.specs.Writing.{write_answer, written, Reloads};
 
+use crate::parents::parent;
 use stored::row::StoredRow;
 use tree::Tree;
 use tree::fault::Fault;
@@ -32,34 +33,10 @@ fn row_of<T: Tree>(tree: &T, out: &[StoredRow], v: usize) -> StoredRow
     requires known { (j : ℕ) → j < v → at out.now j ≡ stored_at (T.rows tree.now) j }
     ensures { result ≡ stored_at (T.rows tree.now) v }
 {
-    let label = tree.label(v);
-    let size = tree.size(v) as u16;
-    if v == 0 {
-        return StoredRow {
-            label,
-            distance: 0,
-            size,
-        };
-    }
-    let distance = (v - parent(tree, out, v)) as u16;
+    let distance = if v == 0 { 0 } else { v - parent(out, v) };
     StoredRow {
-        label,
-        distance,
-        size,
+        label: tree.label(v),
+        distance: distance as u16,
+        size: tree.size(v) as u16,
     }
-}
-
-// The parent of node v: the last node before it whose subtree goes on at v.
-fn parent<T: Tree>(tree: &T, out: &[StoredRow], v: usize) -> usize
-    requires after { 0 < v }
-    requires within { v < count_of (T.rows tree.now) }
-    requires room { v ≤ length out.now }
-    requires known { (j : ℕ) → j < v → at out.now j ≡ stored_at (T.rows tree.now) j }
-    ensures { result + distance_of (T.rows tree.now) v ≡ v }
-{
-    let mut q = v - 1;
-    while q + tree.size(q) <= v {
-        q -= out[q].distance as usize;
-    }
-    q
 }

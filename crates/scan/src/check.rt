@@ -8,7 +8,8 @@ ghost use Rattle.scan.specs.Trees.{OfTree};
 
 use crate::bits::opens;
 use crate::block::Block;
-use crate::directory::{blocks_for, bytes_for, directory_holds};
+use crate::directory::{blocks_for, bytes_for};
+use crate::nesting::Nesting;
 
 // Whether the buffers, as long as they are, are those of a tree of `count` nodes.
 pub fn of_tree(bits: &[u8], labels: &[u16], directory: &[Block], count: usize) -> bool
@@ -20,7 +21,7 @@ pub fn of_tree(bits: &[u8], labels: &[u16], directory: &[Block], count: usize) -
     if directory.len() != blocks_for(count) || !shape_holds(bits, labels) {
         return false;
     }
-    directory_holds(bits, count, directory)
+    Nesting { bits, count }.has_directory(directory)
 }
 
 // Parentheses and labels: the root, then rows that may follow each other, and spare closings.

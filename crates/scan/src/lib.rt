@@ -6,3 +6,4 @@ pub mod block;
 pub mod check;
 pub mod directory;
 mod measure;
+mod nesting;

@@ -13,20 +13,17 @@ pub(crate) struct Levels {
     pub(crate) least: i32,
 }
 
-// Between two bytes, by the tables. The least begins at 1, which no first parenthesis passes.
-pub(crate) fn measure_bytes(bits: &[u8], from: usize, to: usize) -> Levels
-    requires order { from ≤ to }
-    requires within { to ≤ length bits.now }
-    requires few { length bits.now ≤ 2048 }
-    ensures risen { result.last ≡ total_bits (stretch (bits_of bits.now) (8 * from) (8 * to)) }
-    ensures lowest { result.least ≡ low (pos 0) (pos 1) (stretch (bits_of bits.now) (8 * from) (8 * to)) }
+// Over whole bytes, by the tables. The least begins at 1, which no first parenthesis passes.
+pub(crate) fn measure_bytes(bytes: &[u8]) -> Levels
+    requires { length bytes.now ≤ 2048 }
+    ensures risen { result.last ≡ total_bits (bits_of bytes.now) }
+    ensures lowest { result.least ≡ low (pos 0) (pos 1) (bits_of bytes.now) }
 {
     let mut excess: i32 = 0;
     let mut least: i32 = 1;
-    for i in from..to {
-        let b = bits[i];
-        least = least.min(excess + (excess::least(b) as i32));
-        excess += excess::total(b) as i32;
+    for b in bytes {
+        least = least.min(excess + (excess::least(*b) as i32));
+        excess += excess::total(*b) as i32;
     }
     Levels {
         last: excess,
@@ -50,7 +47,7 @@ pub(crate) fn measure(bits: &[u8], from: usize, to: usize) -> Summary
     ensures opened { result.openings ≡ openings (stretch (bits_of bits.now) from to) }
     ensures lowest { result.least ≡ least_bits (stretch (bits_of bits.now) from to) }
 {
-    let whole = measure_bytes(bits, from / 8, to / 8);
+    let whole = measure_bytes(&bits[from / 8..to / 8]);
     let mut excess = whole.last;
     let mut least = whole.least;
     for p in 8 * (to / 8)..to {

@@ -17,6 +17,21 @@ byte_split (b ∷ bs) (suc i) h =
     let y : 8 * (suc i + 1) ≡ suc (suc (suc (suc (suc (suc (suc (suc (8 * (i + 1))))))))) = omega arith in
     ap (λ (n : ℕ). drop n (bits_of (b ∷ bs))) x ∙ byte_split bs i (omega arith) ∙ sym (ap (λ (n : ℕ). bits 8 (get_or bs i 0) ++ drop n (bits_of (b ∷ bs))) y)
 
+-- the bits of the first bytes, and of those from a byte on
+pub bits_take : (bs : List ℕ) (k : ℕ) → bits_of (take k bs) ≡ take (8 * k) (bits_of bs)
+bits_take bs zero = refl
+bits_take [] (suc k) = let z : 8 * suc k ≡ suc (8 * k + 7) = omega arith in sym (ap (λ (n : ℕ). take n []) z)
+bits_take (b ∷ bs) (suc k) =
+    let z : 8 * suc k ≡ suc (suc (suc (suc (suc (suc (suc (suc (8 * k)))))))) = omega arith in
+    ap (λ (l : List Bool). bits 8 b ++ l) (bits_take bs k) ∙ sym (ap (λ (n : ℕ). take n (bits_of (b ∷ bs))) z)
+
+pub bits_drop : (bs : List ℕ) (k : ℕ) → bits_of (drop k bs) ≡ drop (8 * k) (bits_of bs)
+bits_drop bs zero = refl
+bits_drop [] (suc k) = let z : 8 * suc k ≡ suc (8 * k + 7) = omega arith in sym (ap (λ (n : ℕ). drop n []) z)
+bits_drop (b ∷ bs) (suc k) =
+    let z : 8 * suc k ≡ suc (suc (suc (suc (suc (suc (suc (suc (8 * k)))))))) = omega arith in
+    bits_drop bs k ∙ sym (ap (λ (n : ℕ). drop n (bits_of (b ∷ bs))) z)
+
 bit_of : (b j : ℕ) → j < 8 → get_or (bits 8 b) j false ≡ eqb (b / 2 ^ (7 - j) % 2) 1
 bit_of b zero h = refl
 bit_of b (suc zero) h = refl

@@ -7,7 +7,7 @@ use Rattle.std.specs.Int.{int_min}
 use Rattle.excess.specs.Excess.{step, bits, total_bits, least_bits, total_of, least_of}
 use Rattle.shape.specs.Bits.{bits_of, openings}
 use Rattle.shape.specs.Stretch.{stretch, low}
-use Rattle.shape.proofs.Bytes.{byte_split}
+use Rattle.shape.proofs.Bytes.{bits_take, bits_drop}
 use Rattle.shape.proofs.Skips.{total_openings, openings_length}
 
 pub low_same : (e f l m : ℤ) (t : List Bool) → e ≡ f → l ≡ m → low e l t ≡ low f m t
@@ -58,10 +58,11 @@ stretch_bit bs p q h l =
     let z : q - p ≡ suc (q - (p + 1)) = omega arith in
     ap (λ (n : ℕ). take n (drop p bs)) z ∙ ap (take (suc (q - (p + 1)))) (drop_more bs p false l)
 
-pub stretch_byte : (xs : List ℕ) (i j : ℕ) → i < j → i < length xs → stretch (bits_of xs) (8 * i) (8 * j) ≡ bits 8 (get_or xs i 0) ++ stretch (bits_of xs) (8 * (i + 1)) (8 * j)
-stretch_byte xs i j h l =
-    let z : 8 * j - 8 * i ≡ suc (suc (suc (suc (suc (suc (suc (suc (8 * j - 8 * (i + 1))))))))) = omega arith in
-    ap (λ (n : ℕ). take n (drop (8 * i) (bits_of xs))) z ∙ ap (take (suc (suc (suc (suc (suc (suc (suc (suc (8 * j - 8 * (i + 1))))))))))) (byte_split xs i l)
+-- the bits of the bytes from the place i up to the place j
+pub stretch_bytes : (xs : List ℕ) (i j : ℕ) → bits_of (take (j - i) (drop i xs)) ≡ stretch (bits_of xs) (8 * i) (8 * j)
+stretch_bytes xs i j =
+    let z : 8 * (j - i) ≡ 8 * j - 8 * i = omega arith in
+    bits_take (drop i xs) (j - i) ∙ ap (λ (n : ℕ). take n (bits_of (drop i xs))) z ∙ ap (take (8 * j - 8 * i)) (bits_drop xs i)
 
 pub stretch_split : (bs : List Bool) (p q r : ℕ) → p ≤ q → q ≤ r → stretch bs p r ≡ stretch bs p q ++ stretch bs q r
 stretch_split bs p q r h k =

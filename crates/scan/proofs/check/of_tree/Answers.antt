@@ -21,7 +21,7 @@ returns-then-directory-blocks_for c =
 
 pub returns : goal.returns
 returns c =
-    let d = c.directory_holds.ensures in (
+    let d = c.has_directory.ensures in (
       λ e. tree_from c.args.bits.now c.args.labels.now c.args.directory.now c.args.count (omega (arith, c.if-bits-bytes_for.false, c.bytes_for.ensures)) c.if-labels-count.false (sym c.if-not-shape_holds.ensures) (d.0 e),
       λ t. d.1 t.blocks,
     )

@@ -2,7 +2,7 @@ use Rattle.std.proofs.Common.{◌<◌, refl, rules}
 use Rattle.excess.specs.Excess.{total_of}
 use Rattle.excess.proofs.Entries.{totals}
 use Rattle.excess.proofs.Rules.{at}
-use Rattle.excess.proofs.tables.total_at.Goals as goal
+use Rattle.excess.proofs.total.Goals as goal
 
 pub returns : goal.returns
 unfolding total_of

@@ -2,7 +2,7 @@ use Rattle.std.proofs.Common.{◌<◌, refl, rules}
 use Rattle.excess.specs.Excess.{least_of}
 use Rattle.excess.proofs.Entries.{leasts}
 use Rattle.excess.proofs.Rules.{at}
-use Rattle.excess.proofs.tables.least_at.Goals as goal
+use Rattle.excess.proofs.least.Goals as goal
 
 pub returns : goal.returns
 unfolding least_of
