@@ -270,11 +270,11 @@ mod tests {
     // At most 512 bytes.
     #[test]
     fn keeps_length(rt: HostRuntime) -> Result<(), Fail> {
-        let mut text = [32; 513];
-        text[0] = 97;
+        let mut text = [b' '; 513];
+        text[0] = b'a';
         accepted(&rt, &text[0..512], 1, 0, 0)?;
         refused(&rt, &text, 1, 512)?;
-        text[511] = 36;
+        text[511] = b'$';
         refused(&rt, &text[0..512], 2, 511)
     }
 
@@ -286,19 +286,19 @@ mod tests {
         };
         let table = query.table;
         assert!(rt; table.outside[0].slash);
-        assert!(rt; matches!(table.outside[0].axis, Axis::Descendant));
-        assert!(rt; matches!(table.outside[0].test, NodeTest::Name { at: 2, len: 1 }));
-        assert!(rt; matches!(table.outside[0].bracket, Some(2)));
-        assert!(rt; matches!(table.outside[0].next, Some(1)));
-        assert!(rt; matches!(table.inside[0].next, Some(1)));
-        assert!(rt; matches!(table.inside[1].axis, Axis::SelfNode));
-        assert!(rt; matches!(table.inside[1].test, NodeTest::Element));
-        assert!(rt; matches!(table.inside[1].next, None));
-        assert!(rt; matches!(table.inside[2].test, NodeTest::Text));
-        assert!(rt; table.predicates[0].negations == 1);
-        assert!(rt; matches!(table.predicates[0].shape, Shape::Path(0)));
-        assert!(rt; matches!(table.predicates[1].shape, Shape::Path(2)));
-        assert!(rt; matches!(table.predicates[2].shape, Shape::And(0, 1)));
+        assert_eq!(rt; table.outside[0].axis, Axis::Descendant);
+        assert_eq!(rt; table.outside[0].test, NodeTest::Name { at: 2, len: 1 });
+        assert_eq!(rt; table.outside[0].bracket, Some(2));
+        assert_eq!(rt; table.outside[0].next, Some(1));
+        assert_eq!(rt; table.inside[0].next, Some(1));
+        assert_eq!(rt; table.inside[1].axis, Axis::SelfNode);
+        assert_eq!(rt; table.inside[1].test, NodeTest::Element);
+        assert_eq!(rt; table.inside[1].next, None);
+        assert_eq!(rt; table.inside[2].test, NodeTest::Text);
+        assert_eq!(rt; table.predicates[0].negations, 1);
+        assert_eq!(rt; table.predicates[0].shape, Shape::Path(0));
+        assert_eq!(rt; table.predicates[1].shape, Shape::Path(2));
+        assert_eq!(rt; table.predicates[2].shape, Shape::And(0, 1));
         Ok(())
     }
 }

@@ -81,7 +81,8 @@ fn name_test(word: Word<'_>) -> NodeTest
     }
 }
 
-// The node test that begins with a word, which was read.
+// The node test that begins with a word, which was read. A reader takes a text of any length, so that this one is short
+// is asked here.
 fn named(reader: &mut Reader<'_>, word: Word<'_>) -> Result<NodeTest, Fault>
     requires short { end_of reader.old < 513 }
     requires spans { Spans reader.old.text.now word.at word.bytes.now }

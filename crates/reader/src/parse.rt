@@ -1,4 +1,6 @@
 // Reading paths and predicates, which hold one another. The levels left bound how deep the calls stand in one another.
+// `Fit` is asked at each call: as ghost fields of the parser it would be owed at each reader that has moved on and each
+// table between two rows, too.
 ghost use Rattle.std.specs.Prelude.{◌≡◌};
 ghost use Rattle.grammar.specs.declared.tokens.Symbol.TheVariants.{RightBracket, RightParen};
 ghost use Rattle.query.specs.Shown.{where_of};

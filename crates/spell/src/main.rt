@@ -1,7 +1,7 @@
 // Reads a query from standard input, and prints its short spelling or the refusal.
 #![tactic(auto)]
 
-use anyhow::anyhow;
+use anyhow::Context;
 use query::parsed::Query;
 use reader::read;
 use spelling::write_spelling;
@@ -28,12 +28,8 @@ fn run(rt: &HostRuntime) -> anyhow::Result<()> {
 
 fn print_spelling(rt: &HostRuntime, query: &Query) -> anyhow::Result<()> {
     let mut memory = [0u8; 512];
-    let Ok(size) = write_spelling(query, &mut memory) else {
-        return Err(anyhow!("the memory is too small"));
-    };
-    let Some(spelling) = memory.get(0..size) else {
-        return Err(anyhow!("the memory is too small"));
-    };
+    let size = write_spelling(query, &mut memory)?;
+    let spelling = memory.get(..size).context("the memory is too small")?;
     rt.stdout().write_all(spelling)?;
     println!(rt)?;
     Ok(())

@@ -1,5 +1,5 @@
 -- The answer to a query: the length of its spelling, or a refusal; and what the lent memory has then.
-use Rattle.std.specs.Prelude.{◌≡◌, ℕ, ◌<◌, List, ◌++◌, length, drop, Ok, Err, Result}
+use Rattle.std.specs.Prelude.{◌≡◌, ℕ, ◌<◌, List, ◌++◌, length, drop, Ok, Err, Result, codes}
 use Rattle.grammar.specs.Syntax.{Path}
 use Rattle.grammar.specs.Spelling.{spell}
 use Rattle.spelling.specs.declared.parts.Fault.{Fault}
@@ -7,6 +7,10 @@ use Rattle.spelling.specs.declared.parts.Fault.TheVariants.{Memory}
 
 abbrev pub code_of : Fault → ℕ
 code_of Memory = 11
+
+-- what tells of a refusal
+abbrev pub line_of : Fault → List ℕ
+line_of Memory = codes "the memory is too small"
 
 abbrev pub Written : Path → ℕ → List ℕ → List ℕ → Type 0
 Written p n o m = (n ≡ length (spell p)) × (m ≡ spell p ++ drop n o)

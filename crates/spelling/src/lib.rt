@@ -1,11 +1,11 @@
 // Writes the short spelling of a query.
 #![tactic(auto)]
 
-ghost use Rattle.std.specs.Prelude.{◌≡◌, ◌≤◌, false, length, take};
+ghost use Rattle.std.specs.Prelude.{◌≡◌, ◌≤◌, Some, false, length, take};
 ghost use Rattle.grammar.specs.Machine.{outcome, accepted};
 ghost use Rattle.grammar.specs.Spelling.{spell as short};
 ghost use Rattle.query.specs.Queries.{query_of};
-ghost use Rattle.spelling.specs.Answers.{Spelt, Written, code_of};
+ghost use Rattle.spelling.specs.Answers.{Spelt, Written, code_of, line_of};
 
 pub mod parts;
 mod spell;
@@ -16,6 +16,8 @@ use parts::Fault;
 use query::parsed::Query;
 use query::table::Region;
 use spell::step_at;
+use std::error::Error;
+use std::fmt;
 use writer::Writer;
 
 impl Fault {
@@ -28,6 +30,18 @@ impl Fault {
         }
     }
 }
+
+impl fmt::Display for Fault {
+    ghost output = { λ f. Some (line_of f) };
+
+    fn fmt<W: fmt::Write>(&self, f: &mut fmt::Formatter<W>) -> fmt::Result {
+        match self {
+            Fault::Memory => f.write_str("the memory is too small"),
+        }
+    }
+}
+
+impl Error for Fault {}
 
 // Writes the whole spelling, with a writer that has written nothing.
 fn spell_whole(writer: &mut Writer, query: &Query)
