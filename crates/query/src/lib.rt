@@ -33,11 +33,11 @@ impl Fault {
     {
         match self {
             Fault::Long => 512,
-            Fault::NoToken(at) => at,
-            Fault::LongName(at) => at,
-            Fault::Syntax(at) => at,
-            Fault::Deep(at) => at,
-            Fault::Many(at) => at,
+            Fault::NoToken(at)
+            | Fault::LongName(at)
+            | Fault::Syntax(at)
+            | Fault::Deep(at)
+            | Fault::Many(at) => at,
         }
     }
 }

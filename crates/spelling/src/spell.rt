@@ -100,9 +100,8 @@ impl Writer {
         ensures { at + len ≤ 512 → Emits (name_t (take len (drop at query.now.text))) self.old self.new }
     {
         let from = at as usize;
-        let to = from + len as usize;
-        if to <= 512 {
-            self.write_word(&query.text[from..to]);
+        if let Some(name) = query.text.get(from..from + len as usize) {
+            self.write_word(name);
         }
     }
 
