@@ -4,19 +4,21 @@ ghost use Rattle.shape.specs.Bits.{bits_of};
 ghost use Rattle.growth.specs.Steps.{cleared};
 
 // Sets or clears the bit at the place p, whatever stood there, and no other.
+#[tactic(auto, using(crate::proofs::Digits::bit_set, crate::proofs::Digits::bit_clear))]
 pub(crate) fn write_bit(bits: &mut [u8], p: usize, opens: bool)
     requires { p < 8 * length bits.old }
     ensures { bits_of bits.new ≡ slice_set (bits_of bits.old) p opens }
 {
-    let mask = 128 >> (p % 8);
+    let mask = 0x80 >> (p % 8);
     if opens {
         bits[p / 8] |= mask;
     } else {
-        bits[p / 8] &= 255 - mask;
+        bits[p / 8] &= !mask;
     }
 }
 
 // Clears the bits between two places.
+#[tactic(auto, using(shape::proofs::Bytes::bits_length, crate::proofs::Digits::clear_none, crate::proofs::Digits::clear_more))]
 pub(crate) fn clear(bits: &mut [u8], from: usize, to: usize)
     requires order { from ≤ to }
     requires within { to ≤ 8 * length bits.old }

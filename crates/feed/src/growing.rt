@@ -1,4 +1,6 @@
 // The commands of a growing feed.
+#![tactic(auto, using(shape::proofs::Bytes::bits_length, std::proofs::lemmas::Bool::Decides::nat_tests))]
+
 ghost use Rattle.std.specs.Prelude.{◌≡◌, ℕ, ◌+◌, ◌*◌, ◌<◌, ◌≤◌, true, false, List, [], length, Ok, Err};
 ghost use Rattle.shape.specs.Bits.{bits_of};
 ghost use Rattle.scan.specs.Directory.{bytes};
@@ -15,9 +17,12 @@ use crate::types::{Growing, Sealed};
 use growth::command::Command;
 use growth::fault::Fault;
 use names::slot::{Slot, is_name};
-use names::store::holds_name;
+use names::store::{MOST_NAMES, holds_name};
 use scan::block::Block;
 use scan::directory::{blocks_for, bytes_for, fill};
+
+// The nodes of a feed, the root too.
+const MOST_NODES: usize = 8192;
 
 impl Growing {
     // A new feed: the root is open.
@@ -39,7 +44,7 @@ impl Growing {
     fn root_room(bits: &[u8], labels: &[u16]) -> Result<(), Fault>
         ensures { result ≡ begin_check (bits_of bits.now) labels.now }
     {
-        if bits.len() < 1 || labels.len() < 1 {
+        if bits.is_empty() || labels.is_empty() {
             return Err(Fault::Memory);
         }
         Ok(())
@@ -49,7 +54,7 @@ impl Growing {
     fn room(&self, bits: &[u8], labels: &[u16]) -> Result<(), Fault>
         ensures { result ≡ room (fed self.now bits.now labels.now) }
     {
-        if self.nodes >= 8192 {
+        if self.nodes >= MOST_NODES {
             return Err(Fault::Full);
         }
         if (self.written + self.due + 9) / 8 > bits.len() || self.nodes >= labels.len() {
@@ -72,12 +77,10 @@ impl Growing {
             return Err(Fault::Label);
         }
         self.room(bits, labels)?;
-        let at = self.written;
-        let n = self.nodes;
-        write_bit(bits, at, true);
-        labels[n] = label;
-        self.nodes = n + 1;
-        self.written = at + 1;
+        write_bit(bits, self.written, true);
+        labels[self.nodes] = label;
+        self.nodes += 1;
+        self.written += 1;
         self.due += 1;
         Ok(())
     }
@@ -88,13 +91,11 @@ impl Growing {
         ensures leaves { fed self.new bits.new labels.new ≡ after (text_check (fed self.old bits.old labels.old)) (fed self.old bits.old labels.old) (texted (fed self.old bits.old labels.old)) }
     {
         self.room(bits, labels)?;
-        let at = self.written;
-        let n = self.nodes;
-        write_bit(bits, at, true);
-        write_bit(bits, at + 1, false);
-        labels[n] = 1;
-        self.nodes = n + 1;
-        self.written = at + 2;
+        write_bit(bits, self.written, true);
+        write_bit(bits, self.written + 1, false);
+        labels[self.nodes] = 1;
+        self.nodes += 1;
+        self.written += 2;
         Ok(())
     }
 
@@ -117,9 +118,8 @@ impl Growing {
         ensures leaves { (ls : List ℕ) → fed self.new bits.new ls ≡ after (shut_check (fed self.old bits.old ls)) (fed self.old bits.old ls) (shut (fed self.old bits.old ls)) }
     {
         self.may_shut(bits)?;
-        let at = self.written;
-        write_bit(bits, at, false);
-        self.written = at + 1;
+        write_bit(bits, self.written, false);
+        self.written += 1;
         self.due -= 1;
         Ok(())
     }
@@ -128,15 +128,11 @@ impl Growing {
     fn may_name(&self, names: &[Slot], slot: &Slot) -> Result<(), Fault>
         ensures { result ≡ name_check self.now.names names.now slot.now }
     {
-        let k = self.names;
-        if k >= 512 || !is_name(slot) {
+        let known = &names[..self.names.min(names.len())];
+        if self.names >= MOST_NAMES || !is_name(slot) || holds_name(known, slot) {
             return Err(Fault::Slot);
         }
-        let known = k.min(names.len());
-        if holds_name(&names[0..known], slot) {
-            return Err(Fault::Slot);
-        }
-        if k >= names.len() {
+        if self.names >= names.len() {
             return Err(Fault::Memory);
         }
         Ok(())
@@ -151,9 +147,8 @@ impl Growing {
     {
         laws_stand();
         self.may_name(names, slot)?;
-        let k = self.names;
-        names[k] = *slot;
-        self.names = k + 1;
+        names[self.names] = *slot;
+        self.names += 1;
         Ok(())
     }
 

@@ -2,30 +2,39 @@
 // spaces a level, a name for an element or # for a text.
 #![tactic(auto)]
 
-ghost use Rattle.std.specs.Prelude.{◌≡◌, ◌+◌, ◌-◌, ◌≤◌, length};
+ghost use Rattle.std.specs.Prelude.{◌≤◌, length};
 
-use anyhow::anyhow;
-use names::slot::{is_name, slot_of};
-use names::store::label_of;
-use std::alloc::{AllocError, Global};
+use feedfile::opcode::{NAME, OPEN, SEAL, SHUT, TEXT};
+use names::slot::{Slot, is_name, slot_of};
+use names::store::{MOST_NAMES, NO_LABEL, label_of};
+use std::alloc::{AllocError, AllocFailed, Global};
+use std::error::Error;
+use std::fmt;
 use std::io::{Read, Write};
 
 const MOST_NODES: usize = 8192;
-
-const MOST_NAMES: usize = 512;
 
 // What has been written of the feed.
 #[derive(Drop)]
 struct Outline {
     feed: Vec<u8>,
-    slots: Vec<[u8; 32]>,
+    slots: Vec<Slot>,
     // the elements that are open
     depth: usize,
     nodes: usize,
+    // the lines that were taken
+    lines: usize,
+}
+
+// Why an outline makes no feed.
+#[derive(Clone, Copy, Debug)]
+enum Fault {
+    Refused { line: usize, reason: Reason },
+    Memory(AllocError),
 }
 
 // Why a line is refused.
-#[derive(Clone, Copy)]
+#[derive(Clone, Copy, Debug)]
 enum Reason {
     OddSpaces,
     TooDeep,
@@ -34,22 +43,38 @@ enum Reason {
     ManyNodes,
 }
 
-// What an outline comes to.
-#[derive(Drop)]
-enum Outlined {
-    Feed(Vec<u8>),
-    Refused { line: usize, reason: Reason },
+impl fmt::Display for Fault {
+    fn fmt<W: fmt::Write>(&self, f: &mut fmt::Formatter<W>) -> fmt::Result {
+        match self {
+            Fault::Refused { line, reason } => write!(f, "line {line}: {reason}"),
+            Fault::Memory(fault) => write!(f, "{fault}"),
+        }
+    }
 }
 
-impl Reason {
-    fn text(self) -> &'static str {
-        match self {
+impl fmt::Display for Reason {
+    fn fmt<W: fmt::Write>(&self, f: &mut fmt::Formatter<W>) -> fmt::Result {
+        f.write_str(match self {
             Reason::OddSpaces => "an odd number of spaces",
             Reason::TooDeep => "more than one level deeper than the line before, or below a text",
             Reason::NoName => "neither # nor a name of 1 to 32 bytes",
             Reason::ManyNames => "more than 512 names",
             Reason::ManyNodes => "more than 8192 nodes with the root",
-        }
+        })
+    }
+}
+
+impl Error for Fault {}
+
+impl From<AllocError> for Fault {
+    fn from(fault: AllocError) -> Fault {
+        Fault::Memory(fault)
+    }
+}
+
+impl<T: Drop> From<AllocFailed<T>> for Fault {
+    fn from(_fault: AllocFailed<T>) -> Fault {
+        Fault::Memory(AllocError)
     }
 }
 
@@ -61,148 +86,111 @@ fn run(rt: &HostRuntime) -> anyhow::Result<()> {
     let heap = rt.alloc();
     let mut input: Vec<u8> = Vec::new(heap);
     rt.stdin().read_to_end(&mut input)?;
-    match feed_of(heap, input.as_slice())? {
-        Outlined::Feed(feed) => {
-            rt.stdout().write_all(feed.as_slice())?;
-            Ok(())
-        }
-        Outlined::Refused { line, reason } => {
-            let why = reason.text();
-            Err(anyhow!(format!(in heap; "line {line}: {why}")?))
-        }
-    }
+    let feed = feed_of(heap, input.as_slice())?;
+    rt.stdout().write_all(feed.as_slice())?;
+    Ok(())
 }
 
 // The feed of an outline, or the first line that is refused.
-fn feed_of(heap: Global, input: &[u8]) -> Result<Outlined, AllocError> {
+fn feed_of(heap: Global, input: &[u8]) -> Result<Vec<u8>, Fault> {
     let mut outline = Outline {
         feed: Vec::new(heap),
         slots: Vec::new(heap),
         depth: 0,
         nodes: 1,
+        lines: 0,
     };
-    let mut rest = input;
-    let mut number: usize = 0;
-    while !rest.is_empty() {
-        let end = line_end(rest);
-        number = number.saturating_add(1);
-        if let Some(reason) = outline.take_line(&rest[0..end])? {
-            return Ok(Outlined::Refused {
-                line: number,
-                reason,
-            });
-        }
-        rest = after(rest, end);
+    for line in input.split_inclusive(|b| *b == b'\n') {
+        outline.take_line(line.strip_suffix(b"\n".as_slice()).unwrap_or(line))?;
     }
-    Ok(Outlined::Feed(outline.sealed()?))
-}
-
-// Where the first line ends.
-fn line_end(bytes: &[u8]) -> usize
-    ensures { result ≤ length bytes.now }
-{
-    let mut end = 0;
-    while end < bytes.len() && bytes[end] != b'\n' {
-        end += 1;
-    }
-    end
-}
-
-// The bytes after the place `end`.
-fn after(bytes: &[u8], end: usize) -> &[u8]
-    ensures { length result.now ≡ length bytes.now - (end + 1) }
-{
-    if end < bytes.len() {
-        &bytes[end + 1..]
-    } else {
-        &bytes[bytes.len()..]
-    }
+    outline.sealed()
 }
 
 // The spaces that a line begins with.
 fn spaces(line: &[u8]) -> usize
     ensures { result ≤ length line.now }
 {
-    let mut n = 0;
-    while n < line.len() && line[n] == b' ' {
-        n += 1;
-    }
-    n
+    line.iter().position(|b| *b != b' ').unwrap_or(line.len())
 }
 
 impl Outline {
-    // One line more, or the reason why it is refused.
-    fn take_line(&mut self, line: &[u8]) -> Result<Option<Reason>, AllocError> {
+    // One line more.
+    fn take_line(&mut self, line: &[u8]) -> Result<(), Fault> {
+        self.lines = self.lines.saturating_add(1);
         let indent = spaces(line);
         if indent % 2 != 0 {
-            return Ok(Some(Reason::OddSpaces));
+            return self.refused(Reason::OddSpaces);
         }
         if indent / 2 > self.depth {
-            return Ok(Some(Reason::TooDeep));
+            return self.refused(Reason::TooDeep);
         }
         if self.nodes >= MOST_NODES {
-            return Ok(Some(Reason::ManyNodes));
+            return self.refused(Reason::ManyNodes);
         }
         self.close_to(indent / 2)?;
         self.nodes = self.nodes.saturating_add(1);
         self.node(&line[indent..])
     }
 
+    // The line that was taken last is refused.
+    fn refused<T>(&self, reason: Reason) -> Result<T, Fault> {
+        Err(Fault::Refused {
+            line: self.lines,
+            reason,
+        })
+    }
+
     // Closes elements until so many are open.
-    fn close_to(&mut self, depth: usize) -> Result<(), AllocError> {
+    fn close_to(&mut self, depth: usize) -> Result<(), Fault> {
         for _ in depth..self.depth {
-            self.feed.push(0x02)?;
+            self.feed.push(SHUT)?;
         }
         self.depth = depth;
         Ok(())
     }
 
     // A text, or an element by its name.
-    fn node(&mut self, word: &[u8]) -> Result<Option<Reason>, AllocError> {
+    fn node(&mut self, word: &[u8]) -> Result<(), Fault> {
         if word == b"#".as_slice() {
-            self.feed.push(0x03)?;
-            return Ok(None);
+            self.feed.push(TEXT)?;
+            return Ok(());
         }
-        let Some(slot) = slot_of(word) else {
-            return Ok(Some(Reason::NoName));
-        };
-        if !is_name(&slot) {
-            return Ok(Some(Reason::NoName));
-        }
-        let mut label = label_of(self.slots.as_slice(), word);
-        if label == 0xffff {
-            if self.slots.len() >= MOST_NAMES {
-                return Ok(Some(Reason::ManyNames));
-            }
-            self.feed.push(0x04)?;
-            self.feed.extend_from_slice(&slot)?;
-            self.slots.push(slot)?;
-            label = label_of(self.slots.as_slice(), word);
-        }
-        self.feed.push(0x01)?;
+        let label = self.label(word)?;
+        self.feed.push(OPEN)?;
         self.feed.extend_from_slice(&label.to_be_bytes())?;
         self.depth = self.depth.saturating_add(1);
-        Ok(None)
+        Ok(())
+    }
+
+    // The label of a name, which is added to the feed where it is new.
+    fn label(&mut self, word: &[u8]) -> Result<u16, Fault> {
+        let Some(slot) = slot_of(word).filter(is_name) else {
+            return self.refused(Reason::NoName);
+        };
+        let label = label_of(self.slots.as_slice(), word);
+        if label != NO_LABEL {
+            return Ok(label);
+        }
+        if self.slots.len() >= MOST_NAMES {
+            return self.refused(Reason::ManyNames);
+        }
+        self.feed.push(NAME)?;
+        self.feed.extend_from_slice(&slot)?;
+        self.slots.push(slot)?;
+        Ok(label_of(self.slots.as_slice(), word))
     }
 
     // The feed, with all closed and the end marked.
-    fn sealed(self) -> Result<Vec<u8>, AllocError> {
-        let mut outline = self;
-        outline.close_to(0)?;
-        outline.feed.push(0x0f)?;
-        let Outline {
-            feed,
-            slots: _,
-            depth: _,
-            nodes: _,
-        } = outline;
-        Ok(feed)
+    fn sealed(mut self) -> Result<Vec<u8>, Fault> {
+        self.close_to(0)?;
+        self.feed.push(SEAL)?;
+        Ok(self.feed)
     }
 }
 
 #[cfg(test)]
 mod tests {
-    use super::{Outlined, feed_of};
+    use super::{Fault, feed_of};
     use std::alloc::{AllocError, Global};
     use std::test::Fail;
 
@@ -236,17 +224,18 @@ mod tests {
 
     // Whether an outline is refused so.
     fn refuses(heap: Global, outline: &[u8], at: usize, why: &str) -> Result<bool, AllocError> {
-        match feed_of(heap, outline)? {
-            Outlined::Feed(_) => Ok(false),
-            Outlined::Refused { line, reason } => Ok(line == at && reason.text() == why),
+        match feed_of(heap, outline) {
+            Ok(_) => Ok(false),
+            Err(Fault::Refused { line, reason }) => {
+                Ok(line == at && format!(in heap; "{reason}")?.as_str() == why)
+            }
+            Err(Fault::Memory(fault)) => Err(fault),
         }
     }
 
     #[test]
     fn feeds(rt: HostRuntime) -> Result<(), Fail> {
-        let Outlined::Feed(feed) = feed_of(rt.alloc(), b"#\na\n  #\n  a\n#")? else {
-            return Err(Fail::new("refused"));
-        };
+        let feed = feed_of(rt.alloc(), b"#\na\n  #\n  a\n#")?;
         let mut expected = [0u8; 45];
         expected[0..3].copy_from_slice(&[0x03, 0x04, b'a']);
         expected[34..45].copy_from_slice(&[0x01, 0, 2, 0x03, 0x01, 0, 2, 0x02, 0x02, 0x03, 0x0f]);

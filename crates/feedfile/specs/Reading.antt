@@ -39,6 +39,10 @@ reading n k [] f ss = told (Err (Unknown n)) f ss
 reading n zero (b ∷ bs) f ss = next (λ (k : ℕ) (g : Fed) (us : List (List ℕ)). reading n k bs g us) (n - length (b ∷ bs)) f ss (command_of b bs)
 reading n (suc k) (b ∷ bs) f ss = reading n k bs f ss
 
+-- the reading of a whole file
+abbrev pub read_file : List ℕ → Fed → List (List ℕ) → Told
+read_file file f ss = reading (length file) 0 file f ss
+
 -- sealing at the place p
 abbrev pub sealed_at : ℕ → Result (Unit {0}) Fault → Result ℕ FileFault
 sealed_at p (Ok x) = Ok (p + 1)

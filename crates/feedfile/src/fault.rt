@@ -10,8 +10,8 @@ impl FileFault {
         ensures { result ≡ code_of self }
     {
         match self {
-            FileFault::Unknown { place: _ } => 7,
-            FileFault::Refused { fault, place: _ } => fault.code(),
+            FileFault::Unknown { .. } => 7,
+            FileFault::Refused { fault, .. } => fault.code(),
         }
     }
 
@@ -20,8 +20,7 @@ impl FileFault {
         ensures { result ≡ place_of self }
     {
         match self {
-            FileFault::Unknown { place } => place,
-            FileFault::Refused { fault: _, place } => place,
+            FileFault::Unknown { place } | FileFault::Refused { place, .. } => place,
         }
     }
 }

@@ -5,4 +5,5 @@ pub mod command;
 mod decode;
 pub mod fault;
 mod laws;
+pub mod opcode;
 pub mod read;

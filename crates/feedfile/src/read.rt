@@ -3,7 +3,7 @@ ghost use Rattle.std.specs.Prelude.{◌≡◌, ◌<◌, length, Ok, Err};
 ghost use Rattle.shape.specs.Bits.{bits_of};
 ghost use Rattle.feed.specs.Fed.{fed};
 ghost use Rattle.feedfile.specs.Claims.{ReadingTells, FileShows};
-ghost use Rattle.feedfile.specs.Reading.{told, reading, answer_of, bits_left, directory_left};
+ghost use Rattle.feedfile.specs.Reading.{told, read_file, answer_of, bits_left, directory_left};
 
 use crate::command::{FileCommand, FileFault};
 use crate::decode::take_command;
@@ -20,24 +20,19 @@ fn grow(
     labels: &mut [u16],
     names: &mut [Slot],
 ) -> Result<usize, FileFault>
-    ensures reads { told result (fed feed.new bits.new labels.new) names.new ≡ reading (length file.now) 0 file.now (fed feed.old bits.old labels.old) names.old }
+    ensures reads { told result (fed feed.new bits.new labels.new) names.new ≡ read_file file.now (fed feed.old bits.old labels.old) names.old }
     ensures inside { elim result [ Ok p ↦ p < length file.now | Err _ ↦ Unit {0} ] }
 {
     let mut rest = file;
     loop {
         let place = file.len() - rest.len();
-        match take_command(rest) {
-            None => return Err(FileFault::Unknown { place }),
-            Some((item, after)) => match item {
-                FileCommand::Seal => return Ok(place),
-                FileCommand::Feed(command) => {
-                    if let Err(fault) = feed.apply(command, bits, labels, names) {
-                        return Err(FileFault::Refused { fault, place });
-                    }
-                    rest = after;
-                }
-            },
-        }
+        let (item, after) = take_command(rest).ok_or(FileFault::Unknown { place })?;
+        let FileCommand::Feed(command) = item else {
+            return Ok(place);
+        };
+        feed.apply(command, bits, labels, names)
+            .map_err(|fault| FileFault::Refused { fault, place })?;
+        rest = after;
     }
 }
 
@@ -51,11 +46,11 @@ pub fn read(
     names: &mut [Slot],
     directory: &mut [Block],
 ) -> Result<(Sealed, usize), (Growing, FileFault)>
-    ensures answers { elim result [ Ok x ↦ ((answer_of (reading (length file.now) 0 file.now (fed feed bits.old labels.old) names.old) (length directory.old)) ≡ Ok x.1) × (x.0.nodes ≡ (reading (length file.now) 0 file.now (fed feed bits.old labels.old) names.old).feed.nodes) × (x.0.names ≡ (reading (length file.now) 0 file.now (fed feed bits.old labels.old) names.old).feed.names) | Err x ↦ ((answer_of (reading (length file.now) 0 file.now (fed feed bits.old labels.old) names.old) (length directory.old)) ≡ Err x.1) × (fed x.0 bits.new labels.new ≡ (reading (length file.now) 0 file.now (fed feed bits.old labels.old) names.old).feed) ] }
-    ensures parentheses { bits_of bits.new ≡ bits_left (answer_of (reading (length file.now) 0 file.now (fed feed bits.old labels.old) names.old) (length directory.old)) (reading (length file.now) 0 file.now (fed feed bits.old labels.old) names.old).feed }
-    ensures labelled { labels.new ≡ (reading (length file.now) 0 file.now (fed feed bits.old labels.old) names.old).feed.labels }
-    ensures stores { names.new ≡ (reading (length file.now) 0 file.now (fed feed bits.old labels.old) names.old).store }
-    ensures blocks { directory.new ≡ directory_left (answer_of (reading (length file.now) 0 file.now (fed feed bits.old labels.old) names.old) (length directory.old)) (reading (length file.now) 0 file.now (fed feed bits.old labels.old) names.old).feed bits.new directory.old }
+    ensures answers { elim result [ Ok x ↦ ((answer_of (read_file file.now (fed feed bits.old labels.old) names.old) (length directory.old)) ≡ Ok x.1) × (x.0.nodes ≡ (read_file file.now (fed feed bits.old labels.old) names.old).feed.nodes) × (x.0.names ≡ (read_file file.now (fed feed bits.old labels.old) names.old).feed.names) | Err x ↦ ((answer_of (read_file file.now (fed feed bits.old labels.old) names.old) (length directory.old)) ≡ Err x.1) × (fed x.0 bits.new labels.new ≡ (read_file file.now (fed feed bits.old labels.old) names.old).feed) ] }
+    ensures parentheses { bits_of bits.new ≡ bits_left (answer_of (read_file file.now (fed feed bits.old labels.old) names.old) (length directory.old)) (read_file file.now (fed feed bits.old labels.old) names.old).feed }
+    ensures labelled { labels.new ≡ (read_file file.now (fed feed bits.old labels.old) names.old).feed.labels }
+    ensures stores { names.new ≡ (read_file file.now (fed feed bits.old labels.old) names.old).store }
+    ensures blocks { directory.new ≡ directory_left (answer_of (read_file file.now (fed feed bits.old labels.old) names.old) (length directory.old)) (read_file file.now (fed feed bits.old labels.old) names.old).feed bits.new directory.old }
     ensures tells { ReadingTells }
     ensures shows { FileShows }
 {
@@ -64,10 +59,7 @@ pub fn read(
         Err(fault) => Err((feed, fault)),
         Ok(place) => match feed.seal(bits, directory) {
             Ok(sealed) => Ok((sealed, place + 1)),
-            Err(back) => {
-                let (feed, fault) = back;
-                Err((feed, FileFault::Refused { fault, place }))
-            }
+            Err((feed, fault)) => Err((feed, FileFault::Refused { fault, place })),
         },
     }
 }

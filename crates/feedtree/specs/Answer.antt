@@ -9,11 +9,11 @@ use Rattle.growth.specs.Steps.{begin_check, begun}
 use Rattle.feedfile.specs.declared.command.FileFault.{FileFault}
 use Rattle.feedfile.specs.declared.command.FileFault.TheVariants.{Refused}
 use Rattle.feedfile.specs.Files.{Grown}
-use Rattle.feedfile.specs.Reading.{Told, reading, answer_of, bits_left, directory_left}
+use Rattle.feedfile.specs.Reading.{Told, read_file, answer_of, bits_left, directory_left}
 
 -- the reading of a file from a new feed
 abbrev pub read_new : List ℕ → List Bool → List ℕ → List (List ℕ) → Told
-read_new file bits labels ss = reading (length file) 0 file (begun bits labels) ss
+read_new file bits labels ss = read_file file (begun bits labels) ss
 
 -- the answer, with d blocks of directory lent: the place after SEAL, or the fault; memory too small for the root is refused at place 0
 abbrev pub from_start : Result (Unit {0}) Fault → Result ℕ FileFault → Result ℕ FileFault

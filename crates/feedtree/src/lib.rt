@@ -39,18 +39,14 @@ pub fn read_sealed(
     ensures blocks { directory.new ≡ directory_after file.now (bits_of bits.old) labels.old names.old bits.new directory.old }
     ensures shows { elim result [ Ok x ↦ Leaves file.now x.1 x.0.nodes x.0.names bits.new labels.new names.new directory.new | Err _ ↦ Unit {0} ] }
 {
-    let feed = match Growing::begin(bits, labels) {
-        Ok(feed) => feed,
-        Err(fault) => return Err(FileFault::Refused { fault, place: 0 }),
-    };
-    match read(feed, file, bits, labels, names, directory) {
-        Ok(done) => Ok(done),
-        Err(back) => {
-            let (feed, fault) = back;
-            let _ = feed.abandon();
-            Err(fault)
-        }
-    }
+    let feed = Growing::begin(bits, labels).map_err(|fault| FileFault::Refused {
+        fault,
+        place: 0,
+    })?;
+    read(feed, file, bits, labels, names, directory).map_err(|(feed, fault)| {
+        let _ = feed.abandon();
+        fault
+    })
 }
 
 // Reads a feed file into lent memory, seals the feed and makes its tree, into a tree at hand. The tree's rows are exactly
@@ -69,8 +65,7 @@ pub fn read_tree<'a>(
 {
     let (sealed, place) = read_sealed(file, bits, labels, names, directory)?;
     let names = sealed.names();
-    if let Err(back) = sealed.into_tree(tree, bits, labels, directory) {
-        let (sealed, _) = back;
+    if let Err((sealed, _)) = sealed.into_tree(tree, bits, labels, directory) {
         let _ = sealed.abandon();
         return unreachable();
     }

@@ -22,14 +22,7 @@ impl Fault {
         ensures names { NamesStand }
     {
         laws_stand();
-        match self {
-            Fault::Slot => 8,
-            Fault::Label => 9,
-            Fault::Full => 10,
-            Fault::Memory => 11,
-            Fault::RootOnly => 12,
-            Fault::StillOpen => 13,
-        }
+        self as u8
     }
 }
 

@@ -1,7 +1,8 @@
 -- The test of a slot decides whether it is a name and then 0 bytes.
-use Rattle.std.proofs.Common.{◌≡◌, ℕ, zero, suc, ◌+◌, ◌-◌, ◌<◌, ◌≤◌, true, false, eqb, List, [], ◌∷◌, ◌++◌, length, get_or, replicate, sym, refl, ap, ◌∙◌, subst, ⊎_elim, arith}
+use Rattle.std.proofs.Common.{◌≡◌, ℕ, zero, suc, ◌+◌, ◌-◌, ◌<◌, ◌≤◌, true, false, ◌&&◌, Bool, eqb, List, [], ◌∷◌, ◌++◌, length, get_or, drop, replicate, sym, refl, ap, ◌∙◌, subst, ⊎_elim, arith}
 use Rattle.std.proofs.lemmas.Bool.{cases_Bool, cond-true, cond-false, and_parts, and_from, or_left, ne_eqb, eqb-true, both_ways}
 use Rattle.std.proofs.lemmas.List.{length-append, length-replicate}
+use Rattle.std.specs.List.{prefix_len}
 use Rattle.names.specs.Names.{begins, goes_on, blank, goes_on_all, is_name, padded, Name}
 use Rattle.names.specs.Claims.{NamesDecided, NamesApart}
 
@@ -90,3 +91,20 @@ same_names (a ∷ m) (b ∷ n) j k p q e =
 
 pub names_apart : NamesApart
 names_apart m n p q e = same_names m n (32 - length m) (32 - length n) p.each q.each e
+
+-- the bytes after the first that does not go on with a name are 0 exactly where bytes go on with a name and then are 0
+pub zeros_after : (bs : List ℕ) → blank (drop (prefix_len goes_on bs) bs) ≡ goes_on_all bs
+zeros_after [] = refl
+zeros_after (b ∷ bs) =
+    ⊎_elim
+    (λ (on : goes_on b ≡ true).
+    let k : prefix_len goes_on (b ∷ bs) ≡ suc (prefix_len goes_on bs) = cond-true (goes_on b) _ _ on ∙ omega arith in
+    ap (λ (n : ℕ). blank (drop n (b ∷ bs))) k ∙ zeros_after bs
+    ∙ ap (λ (g : Bool). g && goes_on_all bs) (sym on) ∙ sym (cond-false (eqb b 0) _ _ (ne_eqb b 0 (not_zero b on))))
+    (λ (off : goes_on b ≡ false).
+    ap (λ (n : ℕ). blank (drop n (b ∷ bs))) (cond-false (goes_on b) _ _ off)
+    ∙ ⊎_elim
+    (λ (z : eqb b 0 ≡ true). sym (cond-true (eqb b 0) _ _ z))
+    (λ (z : eqb b 0 ≡ false). ap (λ (g : Bool). g && blank bs) z ∙ sym (cond-false (eqb b 0) _ _ z ∙ ap (λ (g : Bool). g && goes_on_all bs) off))
+    (cases_Bool (eqb b 0)))
+    (cases_Bool (goes_on b))

@@ -1,5 +1,6 @@
 -- Names and the slots that hold them.
 use Rattle.std.specs.Prelude.{◌≡◌, ℕ, ◌-◌, ◌<◌, ◌≤◌, Bool, true, cond, ◌&&◌, ◌||◌, List, [], ◌∷◌, ◌++◌, length, drop, replicate, Some, None, Option, ◌==◌, nat_le, nat_lt, slice_index}
+use Rattle.std.specs.List.{list_all}
 
 -- an ASCII letter or an underscore
 abbrev pub begins : ℕ → Bool
@@ -10,8 +11,7 @@ abbrev pub goes_on : ℕ → Bool
 goes_on b = begins b || (nat_le 48 b && nat_le b 57) || b == 45 || b == 46
 
 abbrev pub blank : List ℕ → Bool
-blank [] = true
-blank (b ∷ bs) = b == 0 && blank bs
+blank bs = list_all (λ b. b == 0) bs
 
 -- bytes that go on with a name, then 0 bytes
 abbrev pub goes_on_all : List ℕ → Bool

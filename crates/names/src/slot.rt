@@ -12,41 +12,21 @@ pub type Slot = [u8; 32];
 pub fn begins(b: u8) -> bool
     ensures { result ≡ begins b }
 {
-    (65 <= b && b <= 90) || (97 <= b && b <= 122) || b == 95
+    b.is_ascii_alphabetic() || b == b'_'
 }
 
 // Whether a byte goes on with a name: also a digit, a hyphen or a point.
 pub fn goes_on(b: u8) -> bool
     ensures { result ≡ goes_on b }
 {
-    begins(b) || (48 <= b && b <= 57) || b == 45 || b == 46
+    begins(b) || b.is_ascii_digit() || b == b'-' || b == b'.'
 }
 
-// Whether all bytes are 0 from a place on.
-fn blank_from(bytes: &[u8], from: usize) -> bool
-    ensures { result ≡ blank (drop from bytes.now) }
+// Whether bytes go on with a name, and then are 0.
+fn goes_on_all(bytes: &[u8]) -> bool
+    ensures { result ≡ goes_on_all bytes.now }
 {
-    for i in from..bytes.len() {
-        if bytes[i] != 0 {
-            return false;
-        }
-    }
-    true
-}
-
-// Whether the bytes from a place on go on with a name, and then are 0.
-fn goes_on_from(bytes: &[u8], from: usize) -> bool
-    ensures { result ≡ goes_on_all (drop from bytes.now) }
-{
-    for i in from..bytes.len() {
-        if bytes[i] == 0 {
-            return blank_from(bytes, i);
-        }
-        if !goes_on(bytes[i]) {
-            return false;
-        }
-    }
-    true
+    bytes.iter().skip_while(|b| goes_on(**b)).all(|b| *b == 0)
 }
 
 // Whether a slot holds a name. Its contract also has what the test means: a slot that passes is a name and then 00h bytes.
@@ -56,19 +36,17 @@ pub fn is_name(slot: &Slot) -> bool
     ensures apart { NamesApart }
 {
     laws_stand();
-    begins(slot[0]) && goes_on_from(slot, 1)
+    begins(slot[0]) && goes_on_all(&slot[1..])
 }
 
 // The slot of a name; a name of more than 32 bytes has none.
 pub fn slot_of(name: &[u8]) -> Option<Slot>
     ensures { result ≡ slot_of name.now }
 {
-    if name.len() > 32 {
+    let mut slot = [0_u8; 32];
+    if name.len() > slot.len() {
         return None;
     }
-    let mut slot = [0_u8; 32];
-    for i in 0..name.len() {
-        slot[i] = name[i];
-    }
+    slot[..name.len()].copy_from_slice(name);
     Some(slot)
 }

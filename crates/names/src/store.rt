@@ -1,41 +1,33 @@
 // The name store.
-ghost use Rattle.std.specs.Prelude.{◌≡◌, ◌≤◌, length, take};
-ghost use Rattle.std.specs.Str.{bytes_eq};
+ghost use Rattle.std.specs.Prelude.{◌≡◌, take};
 ghost use Rattle.names.specs.Store.{holds_name, label_from, label_of};
 ghost use Rattle.names.specs.Claims.{Lookup};
 
 use crate::laws::laws_stand;
 use crate::slot::{Slot, slot_of};
 
-// Whether two slots are the same.
-fn same_slot(a: &[u8], b: &[u8]) -> bool
-    ensures { result ≡ bytes_eq a.now b.now }
-{
-    a == b
-}
+// The label of a name that no slot holds.
+pub const NO_LABEL: u16 = 0xffff;
+
+// The names of a store; slots after these do not count.
+pub const MOST_NAMES: usize = 512;
 
 // Whether a slot is among those of a store.
 pub fn holds_name(store: &[Slot], slot: &Slot) -> bool
     ensures { result ≡ holds_name store.now slot.now }
 {
-    for i in 0..store.len() {
-        if same_slot(&store[i], slot) {
-            return true;
-        }
-    }
-    false
+    store.contains(slot)
 }
 
 // The label of the first of at most 512 slots that is the given one, or FFFFh.
 fn label_from(store: &[Slot], slot: &Slot) -> u16
     ensures { result ≡ label_from 2 (take 512 store.now) slot.now }
 {
-    for i in 0..store.len().min(512) {
-        if same_slot(&store[i], slot) {
-            return i as u16 + 2;
-        }
-    }
-    65535
+    store
+        .iter()
+        .take(MOST_NAMES)
+        .position(|held| held == slot)
+        .map_or(NO_LABEL, |i| i as u16 + 2)
 }
 
 // The label of a name: that of the first of at most 512 slots that holds it, otherwise FFFFh. Its contract also has
@@ -45,8 +37,8 @@ pub fn label_of(store: &[Slot], name: &[u8]) -> u16
     ensures lookup { Lookup }
 {
     laws_stand();
-    match slot_of(name) {
-        None => 65535,
-        Some(slot) => label_from(store, &slot),
-    }
+    let Some(slot) = slot_of(name) else {
+        return NO_LABEL;
+    };
+    label_from(store, &slot)
 }

@@ -1,30 +1,8 @@
-use Rattle.std.proofs.Common.{◌≡◌, ℕ, ◌+◌, Bool, ◌||◌, List, [], get_or, drop, sym, ap, ◌∙◌, arith}
-use Rattle.std.proofs.lemmas.List.{at_drop_more, at_drop_all}
-use Rattle.std.specs.Str.{bytes_eq}
-use Rattle.names.specs.Store.{holds_name}
+use Rattle.std.proofs.Common.{refl, ◌∙◌}
+use Rattle.std.proofs.lemmas.Slice.Eq.{slice_eq-Decides, bytes_eq-Decides}
+use Rattle.std.proofs.lemmas.Bool.Decides.{same_from_decides, Decides-eqb}
+use Rattle.names.proofs.Stores.{any_alike}
 use Rattle.names.proofs.store.holds_name.Goals as goal
 
-pub returns-then-same_slot : goal.returns-then-same_slot
-returns-then-same_slot c =
-    let xs = c.args.store.now in
-    let i = c.loop-i.i in
-    let s = c.args.slot.now in
-    let step : holds_name (drop i xs) s ≡ (bytes_eq (get_or xs i []) s || holds_name (drop (i + 1) xs) s) = at_drop_more (λ (l : List (List ℕ)). holds_name l s) xs i [] (omega arith) in
-    let inv : holds_name (drop i xs) s ≡ holds_name xs s = c.loop-i.invariant in
-    ap (λ (g : Bool). g || holds_name (drop (i + 1) xs) s) c.if-same_slot.ensures ∙ sym step ∙ inv
-
-pub loop-i-preserved : goal.loop-i-preserved
-loop-i-preserved c =
-    let xs = c.args.store.now in
-    let i = c.loop-i.i in
-    let s = c.args.slot.now in
-    let step : holds_name (drop i xs) s ≡ (bytes_eq (get_or xs i []) s || holds_name (drop (i + 1) xs) s) = at_drop_more (λ (l : List (List ℕ)). holds_name l s) xs i [] (omega arith) in
-    let inv : holds_name (drop i xs) s ≡ holds_name xs s = c.loop-i.invariant in
-    let goal : holds_name (drop (i + 1) xs) s ≡ holds_name xs s = ap (λ (g : Bool). g || holds_name (drop (i + 1) xs) s) c.if-same_slot.ensures ∙ sym step ∙ inv in
-    goal
-
 pub returns : goal.returns
-returns c =
-    let xs = c.args.store.now in
-    let i = c.loop-i.i in
-    sym (at_drop_all (λ (l : List (List ℕ)). holds_name l c.args.slot.now) xs i (omega arith)) ∙ c.loop-i.invariant
+returns c = c.contains.ensures.value ∙ any_alike _ (λ n. same_from_decides _ _ (slice_eq-Decides Decides-eqb n c.args.slot.now _ refl) (bytes_eq-Decides n c.args.slot.now)) c.args.store.now
