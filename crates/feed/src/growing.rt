@@ -173,6 +173,7 @@ impl Growing {
         ensures feeds { FeedsShow }
     {
         laws_stand();
+        // no `map_err`, since the feed moves on either way
         if let Err(fault) = self.may_seal(bits, directory) {
             return Err((self, fault));
         }
@@ -207,7 +208,8 @@ impl Growing {
         }
     }
 
-    // Gives a feed up: the number of its nodes.
+    // Gives a feed up: the number of its nodes. Each of the two feeds takes its own fields apart, so a trait for both would hold
+    // these bodies too.
     pub fn abandon(self) -> usize
         ensures { result ≡ self.nodes }
     {

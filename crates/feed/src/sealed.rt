@@ -45,6 +45,7 @@ impl Sealed {
         ensures feeds { FeedsShow }
     {
         laws_stand();
+        // no `map_err`, since both arms move the feed
         match tree.load(bits, labels, directory, self.nodes) {
             Ok(()) => {
                 let Sealed { nodes: _, names: _ } = self;

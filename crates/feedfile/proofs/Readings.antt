@@ -1,15 +1,13 @@
 -- One command of a file read.
-use Rattle.std.proofs.Common.{◌≡◌, ℕ, zero, suc, ◌-◌, List, [], ◌∷◌, length, drop, Some, None, Ok, Err, Option, Result, sym, refl, ap, ◌∙◌, arith}
+use Rattle.std.proofs.Common.{◌≡◌, ℕ, zero, suc, ◌-◌, List, [], ◌∷◌, length, drop, Some, Ok, Result, sym, refl, ap, ◌∙◌}
 use Rattle.growth.specs.declared.command.Command.{Command}
-use Rattle.growth.specs.declared.command.Command.TheVariants.{Open, Shut, Text, Name}
 use Rattle.growth.specs.declared.fault.Fault.{Fault}
 use Rattle.growth.specs.Steps.{Fed, after}
 use Rattle.growth.specs.Commands.{step_check, stepped, store_after}
 use Rattle.feedfile.specs.declared.command.FileCommand.{FileCommand}
-use Rattle.feedfile.specs.declared.command.FileCommand.TheVariants.{Feed, Seal}
-use Rattle.feedfile.specs.declared.command.FileFault.TheVariants.{Unknown, Refused}
-use Rattle.feedfile.specs.Bytes.{taken, command_of, width, with_rest}
-use Rattle.feedfile.specs.Reading.{told, reading, next, granted}
+use Rattle.feedfile.specs.declared.command.FileCommand.TheVariants.{Feed}
+use Rattle.feedfile.specs.Bytes.{taken, width}
+use Rattle.feedfile.specs.Reading.{reading, next, granted}
 use Rattle.feedfile.proofs.Takes.{Splits, splits}
 
 -- the operands passed over
@@ -18,42 +16,13 @@ past n zero bs f ss = refl
 past n (suc k) [] f ss = refl
 past n (suc k) (b ∷ bs) f ss = past n k bs f ss
 
-none_at : (op : ℕ) (bs : List ℕ) (o : Option FileCommand) → command_of op bs ≡ o → with_rest bs o ≡ None → command_of op bs ≡ None
-none_at op bs None e t = e
-none_at op bs (Some c) e t = let z : ◌≡◌ {A = ℕ} 0 1 = cc in absurd (omega arith)
-
-pub unknown : (n : ℕ) (bs : List ℕ) (f : Fed) (ss : List (List ℕ)) → taken bs ≡ None → reading n 0 bs f ss ≡ told (Err (Unknown (n - length bs))) f ss
-unknown n [] f ss t = let z : n ≡ n - 0 = omega arith in ap (λ (p : ℕ). told (Err (Unknown p)) f ss) z
-unknown n (b ∷ bs) f ss t =
-    ap (next (λ (k : ℕ) (g : Fed) (us : List (List ℕ)). reading n k bs g us) (n - length (b ∷ bs)) f ss) (none_at b bs (command_of b bs) refl t)
-
 -- a file whose first command is c
-pub step : (n : ℕ) (bs rest : List ℕ) (c : FileCommand) (f : Fed) (ss : List (List ℕ)) → taken bs ≡ Some (c, rest) →
+step : (n : ℕ) (bs rest : List ℕ) (c : FileCommand) (f : Fed) (ss : List (List ℕ)) → taken bs ≡ Some (c, rest) →
     (s : Splits bs c rest) → reading n 0 bs f ss ≡ next (λ (k : ℕ) (g : Fed) (us : List (List ℕ)). reading n k s.others g us) (n - length bs) f ss (Some c)
 step n bs rest c f ss t s =
     ap (λ (l : List ℕ). reading n 0 l f ss) s.whole
     ∙ ap (next (λ (k : ℕ) (g : Fed) (us : List (List ℕ)). reading n k s.others g us) (n - length (s.op ∷ s.others)) f ss) s.command
     ∙ ap (λ (l : List ℕ). next (λ (k : ℕ) (g : Fed) (us : List (List ℕ)). reading n k s.others g us) (n - length l) f ss (Some c)) (sym s.whole)
-
-pub ended : (n : ℕ) (bs rest : List ℕ) (f : Fed) (ss : List (List ℕ)) → taken bs ≡ Some (Seal, rest) → reading n 0 bs f ss ≡ told (Ok (n - length bs)) f ss
-ended n bs rest f ss t = step n bs rest Seal f ss t (splits bs rest Seal t)
-
-store_kept : (e : Fault) (k : ℕ) (ss : List (List ℕ)) (c : Command) → store_after (Err e) k ss c ≡ ss
-store_kept e k ss (Open x) = refl
-store_kept e k ss Shut = refl
-store_kept e k ss Text = refl
-store_kept e k ss (Name s) = refl
-
-pub refuse : (n : ℕ) (bs rest : List ℕ) (f g : Fed) (ss us : List (List ℕ)) (c : Command) (e : Fault) → taken bs ≡ Some (Feed c, rest) → Err e ≡ step_check f ss c →
-    g ≡ after (step_check f ss c) f (stepped f c) → us ≡ store_after (step_check f ss c) f.names ss c →
-    told (Err (Refused e (n - length bs))) g us ≡ reading n 0 bs f ss
-refuse n bs rest f g ss us c e t a l s =
-    let x : g ≡ f = l ∙ sym (ap (λ (r : Result (Unit {0}) Fault). after r f (stepped f c)) a) in
-    let y : us ≡ ss = s ∙ sym (ap (λ (r : Result (Unit {0}) Fault). store_after r f.names ss c) a) ∙ store_kept e f.names ss c in
-    let w = splits bs rest (Feed c) t in
-    ap (λ (h : Fed). told (Err (Refused e (n - length bs))) h us) x ∙ ap (told (Err (Refused e (n - length bs))) f) y
-    ∙ ap (granted (λ (k : ℕ) (h : Fed) (qs : List (List ℕ)). reading n k w.others h qs) (n - length bs) f ss c) a
-    ∙ sym (step n bs rest (Feed c) f ss t w)
 
 pub go_on : (n : ℕ) (bs rest : List ℕ) (f g : Fed) (ss us : List (List ℕ)) (c : Command) → taken bs ≡ Some (Feed c, rest) → Ok tt ≡ step_check f ss c →
     g ≡ after (step_check f ss c) f (stepped f c) → us ≡ store_after (step_check f ss c) f.names ss c →

@@ -14,7 +14,8 @@ fn take_slot(bytes: &[u8]) -> Option<(FileCommand, &[u8])>
     Some((FileCommand::Feed(Command::Name(*slot)), rest))
 }
 
-// The first command and the bytes after it; none where it is unknown, cut short or missing.
+// The first command and the bytes after it; none where it is unknown, cut short or missing. Each arm is an opcode, its
+// operands and the rest.
 pub(crate) fn take_command(bytes: &[u8]) -> Option<(FileCommand, &[u8])>
     ensures { split result ≡ taken bytes.now }
 {

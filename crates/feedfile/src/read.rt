@@ -55,6 +55,7 @@ pub fn read(
     ensures shows { FileShows }
 {
     laws_stand();
+    // no `map_err`, since both arms move the feed
     match grow(&mut feed, file, bits, labels, names) {
         Err(fault) => Err((feed, fault)),
         Ok(place) => match feed.seal(bits, directory) {

@@ -1,4 +1,3 @@
-pub mod Lists
 pub mod Stores
 pub mod Labels
 pub mod Slots
