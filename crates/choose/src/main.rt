@@ -2,7 +2,7 @@
 #![tactic(auto)]
 
 use choosing::choose::choose;
-use choosing::chosen::Chosen;
+use choosing::chosen::ChooseError;
 use std::io::Read;
 
 // One byte more than an input may have: a longer one is refused without reading on.
@@ -14,15 +14,12 @@ fn main(rt: HostRuntime) -> anyhow::Result<()> {
 
 fn run(rt: &HostRuntime) -> anyhow::Result<()> {
     let heap = rt.alloc();
-    let mut input: Vec<u8> = Vec::new(heap);
+    let mut input = Vec::new(heap);
     rt.stdin().take(READ_AT_MOST).read_to_end(&mut input)?;
-    match choose(heap, input.as_slice())? {
-        Chosen::Text(text) => rt.print(text.as_str())?,
-        Chosen::Refused(fault) => {
-            let code = fault.code();
-            let place = fault.place();
-            println!(rt; "refused {code} at {place}")?;
-        }
+    match choose(heap, input.as_slice()) {
+        Ok(text) => rt.print(text.as_str())?,
+        Err(ChooseError::Refused(fault)) => println!(rt; "{fault}")?,
+        Err(error) => return Err(error.into()),
     }
     Ok(())
 }

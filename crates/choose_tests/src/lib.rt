@@ -4,7 +4,7 @@
 #[cfg(test)]
 mod tests {
     use choosing::choose::choose;
-    use choosing::chosen::Chosen;
+    use choosing::chosen::ChooseError;
     use std::alloc::{AllocError, Global};
     use std::process::Abort;
     use std::test::Fail;
@@ -30,13 +30,10 @@ mod tests {
 
     // What is printed for an input.
     fn printed(heap: Global, input: &[u8]) -> Result<String, AllocError> {
-        match choose(heap, input)? {
-            Chosen::Text(text) => Ok(text),
-            Chosen::Refused(fault) => {
-                let code = fault.code();
-                let place = fault.place();
-                format!(in heap; "refused {code} at {place}\n")
-            }
+        match choose(heap, input) {
+            Ok(text) => Ok(text),
+            Err(ChooseError::Refused(fault)) => format!(in heap; "{fault}\n"),
+            Err(ChooseError::OutOfMemory) => Err(AllocError),
         }
     }
 

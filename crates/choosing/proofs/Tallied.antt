@@ -1,5 +1,5 @@
 -- The tallies of a list of nodes say how many there are, the first and the last, and the first twelve.
-use Rattle.std.proofs.Common.{◌≡◌, ℕ, zero, suc, ◌+◌, ◌-◌, ◌≤◌, min, Bool, false, ◌||◌, ltb, List, [], ◌∷◌, length, take, IfOk, Ok, Err, Result, refl, ap, ◌∙◌, subst, inl, inr, arith, length-take}
+use Rattle.std.proofs.Common.{◌≡◌, ℕ, zero, suc, ◌+◌, ◌-◌, ◌≤◌, min, Bool, false, ◌||◌, ltb, List, [], ◌∷◌, length, take, refl, ap, ◌∙◌, subst, inl, inr, arith, length-take}
 use Rattle.std.proofs.lemmas.Bool.Decides.{nat_tests}
 use Rattle.tally.specs.Monoid.{marks_of}
 use Rattle.tally.specs.Values.{Capped, cap, add, Extent, spanned, Leading, leading, followed}
@@ -41,10 +41,6 @@ lists_length : (Q : ℕ → Type 0) (v k : ℕ) (vs : List ℕ) → Lists Q v k 
 lists_length Q v zero vs e = omega (arith, ap length e)
 lists_length Q v (suc k) vs (inl y) = let i = lists_length Q (v + 1) k y.1.0 y.1.2 in omega (arith, ap length y.1.1)
 lists_length Q v (suc k) vs (inr y) = let i = lists_length Q (v + 1) k vs y.1 in omega arith
-
-pub made_so : {X Y : Type 0} (r : Result X Y) (P Q : X → Type 0) → ((x : X) → P x → Q x) → IfOk r P → IfOk r Q
-made_so (Ok x) P Q f p = f x p
-made_so (Err y) P Q f p = tt
 
 -- a report of the three tallies of all nodes tells of the nodes that the query selects
 pub told_all : (names : Store) (q : Path) (rows : List Row) (n : ℕ) (s : State) (ws : List ℕ) (selected : ℕ) (ends : Extent) (lead : Leading) (text : List ℕ)

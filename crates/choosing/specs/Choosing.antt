@@ -1,5 +1,6 @@
 -- What is printed for which input.
-use Rattle.std.specs.Prelude.{◌≡◌, ℕ, ◌<◌, ◌≤◌, List, length, take, drop, Err, string_bytes}
+use Rattle.std.specs.Prelude.{◌≡◌, ℕ, ◌<◌, ◌≤◌, List, ◌++◌, length, take, drop, codes, decimal, Ok, Err, Result, String, string_bytes}
+use Rattle.std.specs.declared.alloc.Global.{Global}
 use Rattle.rows.specs.Rows.{Row, Lawful, count_of}
 use Rattle.shape.specs.Bits.{bits_of}
 use Rattle.grammar.specs.Syntax.{Path}
@@ -13,8 +14,8 @@ use Rattle.feedfile.specs.Files.{Grown}
 use Rattle.feedtree.specs.Answer.{tree_answer}
 use Rattle.choosing.specs.declared.chosen.Fault.{Fault}
 use Rattle.choosing.specs.declared.chosen.Fault.TheVariants.{TooLong, Feed, Query as TextOfQuery}
-use Rattle.choosing.specs.declared.chosen.Chosen.{Chosen}
-use Rattle.choosing.specs.declared.chosen.Chosen.TheVariants.{Text, Refused}
+use Rattle.choosing.specs.declared.chosen.ChooseError.{ChooseError}
+use Rattle.choosing.specs.declared.chosen.ChooseError.TheVariants.{Refused, OutOfMemory}
 use Rattle.choosing.specs.Printed.{printed}
 
 -- the number and the place of each fault: those of feed and query keep their own
@@ -27,6 +28,10 @@ abbrev pub place_of : Fault → ℕ
 place_of TooLong = 65536
 place_of (Feed f) = file.place_of f
 place_of (TextOfQuery f) = query.place_of f
+
+-- a refusal as it is printed
+abbrev pub refusal_text : Fault → List ℕ
+refusal_text f = codes "refused " ++ (decimal (code_of f) ++ (codes " at " ++ decimal (place_of f)))
 
 -- a text tells of the nodes that the query q selects in a tree, all of them in order
 abbrev pub Tells : Store → Path → List Row → List ℕ → Type 0
@@ -47,11 +52,13 @@ pub record Input (input : List ℕ) (rows : List Row) (names : Store) (text : Li
   pub named : names ≡ take names_fed store
   pub rest : text ≡ drop end input
 
--- what is answered to an input: refused as too long, by a command of its feed or in its query; or the text for the query
-abbrev pub Chooses : List ℕ → Chosen → Type 0
-Chooses input (Refused TooLong) = 65536 < length input
-Chooses input (Refused (Feed f)) = (length input ≤ 65536) × FeedRefused input f
-Chooses input (Refused (TextOfQuery f)) =
+-- what is answered to an input: refused as too long, by a command of its feed or in its query; or the text for the query.
+-- Where memory runs out nothing is said.
+abbrev pub Chooses : List ℕ → Result (String Global) ChooseError → Type 0
+Chooses input (Err OutOfMemory) = Unit {0}
+Chooses input (Err (Refused TooLong)) = 65536 < length input
+Chooses input (Err (Refused (Feed f))) = (length input ≤ 65536) × FeedRefused input f
+Chooses input (Err (Refused (TextOfQuery f))) =
     (length input ≤ 65536) × ((rows : List Row) × (names : Store) × (text : List ℕ) × Input input rows names text × (outcome text ≡ refused (query.code_of f) (query.place_of f)))
-Chooses input (Text s) =
+Chooses input (Ok s) =
     (length input ≤ 65536) × ((rows : List Row) × (names : Store) × (text : List ℕ) × (q : Path) × Input input rows names text × (outcome text ≡ accepted q) × Tells names q rows (string_bytes s))

@@ -1,5 +1,5 @@
 -- What is printed of the nodes that a query selects.
-use Rattle.std.specs.Prelude.{ℕ, Bool, cond, List, [], ◌∷◌, ◌++◌, length, take, codes, decimal, nat_lt}
+use Rattle.std.specs.Prelude.{ℕ, Bool, cond, List, [], ◌∷◌, ◌++◌, length, take, codes, decimal, flat_map, nat_lt}
 use Rattle.tally.specs.Values.{Extent}
 use Rattle.tally.specs.Values.Extent.{nowhere, across}
 
@@ -18,8 +18,7 @@ ends_text (across a b) = codes "from " ++ (decimal a ++ (codes " to " ++ (decima
 
 -- a line for each number
 abbrev pub numbers_text : List ℕ → List ℕ
-numbers_text [] = []
-numbers_text (v ∷ vs) = (decimal v ++ newline) ++ numbers_text vs
+numbers_text vs = flat_map (λ v. decimal v ++ newline) vs
 
 abbrev pub last_text : Bool → List ℕ
 last_text more = cond more (codes "more" ++ (10 ∷ codes "end" ++ newline)) (codes "end" ++ newline)

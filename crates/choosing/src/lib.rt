@@ -3,5 +3,6 @@
 
 pub mod choose;
 pub mod chosen;
+mod memory;
 mod report;
 mod select_text;

@@ -24,10 +24,7 @@ fn whole<T: Tree, K: Tally + Drop>(selector: &Selector, tree: &T, work: &[u64], 
     requires { refusal (state_of selector.now) (count_of (T.rows tree.now)) (length work.now) (tally_call 0 n) ≡ None }
     ensures { K.value result ≡ marks_of K.empty K.mark K.join (told_nodes (state_of selector.now) work.now 0 n) }
 {
-    match selector.tally(tree, work, 0, n) {
-        Ok(tally) => tally,
-        Err(_) => unreachable(),
-    }
+    selector.tally(tree, work, 0, n).unwrap()
 }
 
 // The text for a query, a name store and a tree, in lent memory.

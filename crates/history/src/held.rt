@@ -1,10 +1,3 @@
-// A tally of one of several kinds.
-#[derive(Clone, Copy)]
-pub enum Either<A, B> {
-    This(A),
-    That(B),
-}
-
-// A tally of the last kind.
+// A tally of the last kind: a type of its own, since no trait can have an impl for each tally and one for Either.
 #[derive(Clone, Copy)]
 pub struct Only<A>(pub A);

@@ -7,7 +7,8 @@ ghost use Rattle.selector.specs.Steps.{state_of, refusal, outcome, valued, told_
 ghost use Rattle.history.specs.Pick.{Pick, pick, pick_mark, pick_join};
 ghost use Rattle.history.specs.Cases.{either_value};
 
-use history::held::{Either, Only};
+use either::{Either, Left, Right};
+use history::held::Only;
 use selector::fault::Fault;
 use selector::selector::Selector;
 use tally::Tally;
@@ -68,10 +69,7 @@ impl<K: Tally + Drop> Kinds for Only<K> {
         lo: usize,
         hi: usize,
     ) -> Result<Only<K>, Fault> {
-        match selector.tally(tree, work, lo, hi) {
-            Ok(k) => Ok(Only(k)),
-            Err(e) => Err(e),
-        }
+        selector.tally(tree, work, lo, hi).map(Only)
     }
 }
 
@@ -104,15 +102,9 @@ impl<A: Tally + Drop, B: Kinds + Drop> Kinds for Either<A, B> {
         hi: usize,
     ) -> Result<Either<A, B>, Fault> {
         if kind == 0 {
-            match selector.tally(tree, work, lo, hi) {
-                Ok(k) => Ok(Either::This(k)),
-                Err(e) => Err(e),
-            }
+            Ok(Left(selector.tally(tree, work, lo, hi)?))
         } else {
-            match B::tally(kind - 1, selector, tree, work, lo, hi) {
-                Ok(k) => Ok(Either::That(k)),
-                Err(e) => Err(e),
-            }
+            Ok(Right(B::tally(kind - 1, selector, tree, work, lo, hi)?))
         }
     }
 }

@@ -1,5 +1,5 @@
 // Any list of calls to a new selector, with tallies of any number of kinds, and the law of their answers.
-ghost use Rattle.std.specs.Prelude.{◌≡◌, ℕ, ◌<◌, ◌≤◌, min, length, drop, slice_set};
+ghost use Rattle.std.specs.Prelude.{◌≡◌, ℕ, ◌≤◌, min, length, drop};
 ghost use Rattle.rows.specs.Rows.{count_of};
 ghost use Rattle.selector.specs.Steps.{State, state_of, fresh, state_after, words_after};
 ghost use Rattle.history.specs.Bits.{WordsMean};
@@ -8,7 +8,7 @@ ghost use Rattle.history.specs.Law.{Lawful};
 ghost use Rattle.history.specs.Views.{call_by, of_kind, answer_by, turns_by};
 
 use crate::kinds::Kinds;
-use history::calls::{Answer, Call};
+use history::calls::{Answer, Call, Reply};
 use selector::selector::Selector;
 use tree::Tree;
 
@@ -24,30 +24,16 @@ pub fn carry_out<T: Tree, S: Kinds + Drop>(
     ensures words { (i : ℕ) → work.new ≡ words_after (T.rows tree.now) (state_of selector.old) work.old (call_by i call.entry) }
 {
     match call {
-        Call::Load(program) => match selector.load(tree, program) {
-            Ok(()) => Answer::Loaded,
-            Err(e) => Answer::Refused(e),
-        },
-        Call::Rise(k) => match selector.rise(tree, work, k) {
-            Ok(left) => Answer::Left(left),
-            Err(e) => Answer::Refused(e),
-        },
-        Call::Fall(k) => match selector.fall(tree, work, k) {
-            Ok(left) => Answer::Left(left),
-            Err(e) => Answer::Refused(e),
-        },
-        Call::Tally { kind, lo, hi } => match S::tally(kind, selector, tree, work, lo, hi) {
-            Ok(s) => Answer::Value(s),
-            Err(e) => Answer::Refused(e),
-        },
+        Call::Load(program) => {
+            selector.load(tree, program)?;
+            Ok(Reply::Loaded)
+        }
+        Call::Rise(k) => Ok(Reply::Left(selector.rise(tree, work, k)?)),
+        Call::Fall(k) => Ok(Reply::Left(selector.fall(tree, work, k)?)),
+        Call::Tally { kind, lo, hi } => {
+            Ok(Reply::Value(S::tally(kind, selector, tree, work, lo, hi)?))
+        }
     }
-}
-
-fn put<S: Copy>(answers: &mut [Answer<S>], i: usize, answer: Answer<S>)
-    requires { i < length answers.old }
-    ensures { answers.new ≡ slice_set answers.old i answer }
-{
-    answers[i] = answer;
 }
 
 // Carries out the calls on a new selector, as many as there is room for answers, and says how many.
@@ -65,10 +51,9 @@ pub fn run<T: Tree, S: Kinds + Copy>(
 {
     let mut selector = Selector::new();
     let n = calls.len().min(answers.len());
-    for i in 0..n {
-        let call = calls[i];
-        let answer = carry_out(&mut selector, tree, work, call);
-        put(answers, i, answer);
+    // by index, since nothing is known of what is written through an adapter of iter_mut
+    for (i, call) in calls[..n].iter().enumerate() {
+        answers[i] = carry_out(&mut selector, tree, work, *call);
     }
     n
 }

@@ -3,8 +3,9 @@
 // Tests of the selector: phases, refusals, and calls in any order against a plain evaluation.
 #[cfg(test)]
 mod tests {
-    use history::calls::{Answer, Call};
-    use history::held::{Either, Only};
+    use either::{Either, Left, Right};
+    use history::calls::{Answer, Call, Reply};
+    use history::held::Only;
     use row_tree::row_tree::RowTree;
     use run::kinds::Kinds;
     use run::run::run;
@@ -12,7 +13,7 @@ mod tests {
     use selector::selector::Selector;
     use stored::row::StoredRow;
     use tally::count::Count;
-    use tally::extent::Extent;
+    use tally::extent::{Ends, Extent};
     use tally::leading::LeadingTwelve;
 
     const fn row(label: u16, distance: u16, size: u16) -> StoredRow {
@@ -46,16 +47,12 @@ mod tests {
     ];
 
     fn label_at(rows: &[StoredRow], v: usize) -> u16 {
-        if v < rows.len() { rows[v].label } else { 0 }
+        rows.get(v).map_or(0, |row| row.label)
     }
 
     // the distance to the parent, 0 where there is none
     fn distance_at(rows: &[StoredRow], v: usize) -> usize {
-        if v < rows.len() {
-            rows[v].distance as usize
-        } else {
-            0
-        }
+        rows.get(v).map_or(0, |row| row.distance as usize)
     }
 
     // Whether node v has label 4 and an ancestor of label 3, by the parents.
@@ -73,13 +70,8 @@ mod tests {
     }
 
     fn counted(rows: &[StoredRow], lo: usize, hi: usize) -> u16 {
-        let mut count: u16 = 0;
-        for v in lo..hi {
-            if selected(rows, v) {
-                count = count.saturating_add(1);
-            }
-        }
-        count
+        let count = (lo..hi).filter(|v| selected(rows, *v)).count();
+        u16::try_from(count).unwrap_or(u16::MAX)
     }
 
     // What is known of the calls so far: whether a program is loaded, and the sums of the granted rises and falls.
@@ -134,7 +126,7 @@ mod tests {
                     },
                 )
             }
-            1 | 2 | 3 => {
+            1..=3 => {
                 let want = due(sums.loaded, sums.risen < 9);
                 let right = code(selector.rise(tree, work, n)) == want;
                 let risen = if want == 0 {
@@ -142,16 +134,9 @@ mod tests {
                 } else {
                     sums.risen
                 };
-                (
-                    right,
-                    Sums {
-                        loaded: sums.loaded,
-                        risen,
-                        fallen: sums.fallen,
-                    },
-                )
+                (right, Sums { risen, ..sums })
             }
-            4 | 5 | 6 => {
+            4..=6 => {
                 let want = due(sums.loaded, sums.risen >= 9 && sums.fallen < 9);
                 let right = code(selector.fall(tree, work, n)) == want;
                 let fallen = if want == 0 {
@@ -159,14 +144,7 @@ mod tests {
                 } else {
                     sums.fallen
                 };
-                (
-                    right,
-                    Sums {
-                        loaded: sums.loaded,
-                        risen: sums.risen,
-                        fallen,
-                    },
-                )
+                (right, Sums { fallen, ..sums })
             }
             _ => (tallies(selector, tree, rows, work, sums, n), sums),
         }
@@ -236,24 +214,20 @@ mod tests {
 
     fn shown_tally(three: Three) -> usize {
         match three {
-            Either::This(count) => 1000 + count.count as usize,
-            Either::That(rest) => match rest {
-                Either::This(extent) => match extent {
-                    Extent::Nowhere => 2000,
-                    Extent::Across { first, last } => 2000 + 10 * first as usize + last as usize,
-                },
-                Either::That(only) => 3000 + only.0.nodes().len() % 20,
-            },
+            Left(count) => 1000 + count.count as usize,
+            Right(Left(None)) => 2000,
+            Right(Left(Some(Ends { first, last }))) => 2000 + 10 * first as usize + last as usize,
+            Right(Right(only)) => 3000 + only.0.nodes().len() % 20,
         }
     }
 
     // a number for an answer: that of a refusal, the number left, or the kind of a tally and what it tells
     fn shown(answer: Answer<Three>) -> usize {
         match answer {
-            Answer::Refused(fault) => fault.code() as usize,
-            Answer::Loaded => 100,
-            Answer::Left(n) => n,
-            Answer::Value(three) => shown_tally(three),
+            Err(fault) => fault.code() as usize,
+            Ok(Reply::Loaded) => 100,
+            Ok(Reply::Left(n)) => n,
+            Ok(Reply::Value(three)) => shown_tally(three),
         }
     }
 
@@ -289,7 +263,7 @@ mod tests {
                 hi: 10,
             },
         ];
-        let mut answers: [Answer<Three>; 8] = [Answer::Loaded; 8];
+        let mut answers: [Answer<Three>; 8] = [Ok(Reply::Loaded); 8];
         assert_eq!(rt; run(&tree, &mut work, &calls, &mut answers), 8);
         assert_eq!(rt; shown(answers[1]), 5);
         assert_eq!(rt; shown(answers[3]), 0);

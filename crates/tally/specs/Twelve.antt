@@ -1,6 +1,7 @@
 -- Lemmas of lists cut at twelve.
 use Rattle.std.specs.Prelude.{◌≡◌, ℕ, zero, suc, ◌+◌, ◌<◌, ◌≤◌, Bool, true, false, ◌||◌, List, [], ◌∷◌, ◌++◌, length, take, nat_lt, refl}
 use Rattle.std.proofs.Common.{sym, ap, ◌∙◌, ⊎_elim, arith, length-take, length-append}
+use Rattle.std.proofs.Math.Bool.{or-false, or-true}
 use Rattle.std.proofs.lemmas.Bool.{le-ltb, lt-ltb, cases_lt}
 
 pub few_of : (xs : List ℕ) → length (take 12 xs) ≤ 12
@@ -24,20 +25,8 @@ take_front xs ys = front 12 xs ys
 pub take_back : (xs ys : List ℕ) → take 12 (xs ++ take 12 ys) ≡ take 12 (xs ++ ys)
 take_back xs ys = back 12 12 xs ys (omega arith)
 
-pub or_false : (a : Bool) → (a || false) ≡ a
-or_false true = refl
-or_false false = refl
-
 pub flag_right : (m : Bool) (xs : List ℕ) → length xs ≤ 12 → (m || nat_lt 12 (length xs)) ≡ m
-flag_right m xs h = ap (λ (b : Bool). m || b) (le-ltb 12 (length xs) h) ∙ or_false m
-
-pub or_true : (a : Bool) → (a || true) ≡ true
-or_true true = refl
-or_true false = refl
-
-or_assoc : (a b c : Bool) → ((a || b) || c) ≡ (a || (b || c))
-or_assoc true b c = refl
-or_assoc false b c = refl
+flag_right m xs h = ap (λ (b : Bool). m || b) (le-ltb 12 (length xs) h) ∙ or-false m
 
 either_way : (t u v w : Bool) (n i j : ℕ) →
     (12 < i → t ≡ true) → (i ≤ 12 → t ≡ false) → (12 < j → w ≡ true) → (j ≤ 12 → w ≡ false) →
@@ -46,8 +35,8 @@ either_way : (t u v w : Bool) (n i j : ℕ) →
 either_way t u v w n i j ti tn wi wn ui un vi vn hi hj =
     ⊎_elim
     (λ big.
-    let l : (t || false) || u ≡ true = ⊎_elim (λ p. ap (λ (x : Bool). (x || false) || u) (ti p)) (λ p. ap (λ (x : Bool). (t || false) || x) (ui big p) ∙ or_true (t || false)) (cases_lt 12 i) in
-    let r : w || v ≡ true = ⊎_elim (λ p. ap (λ (x : Bool). x || v) (wi p)) (λ p. ap (λ (x : Bool). w || x) (vi big p) ∙ or_true w) (cases_lt 12 j) in
+    let l : (t || false) || u ≡ true = ⊎_elim (λ p. ap (λ (x : Bool). (x || false) || u) (ti p)) (λ p. ap (λ (x : Bool). (t || false) || x) (ui big p) ∙ or-true (t || false)) (cases_lt 12 i) in
+    let r : w || v ≡ true = ⊎_elim (λ p. ap (λ (x : Bool). x || v) (wi p)) (λ p. ap (λ (x : Bool). w || x) (vi big p) ∙ or-true w) (cases_lt 12 j) in
     l ∙ sym r)
     (λ small.
     let l : (t || false) || u ≡ false = ap (λ (x : Bool). (x || false) || u) (tn (omega arith)) ∙ un small in
@@ -60,7 +49,7 @@ pub flag_assoc : (a b c : Bool) (xs ys zs : List ℕ) →
     ≡ (a || ((b || c) || nat_lt 12 (length (ys ++ zs)))) || nat_lt 12 (length (xs ++ take 12 (ys ++ zs)))
 flag_assoc true b c xs ys zs = refl
 flag_assoc false true c xs ys zs = refl
-flag_assoc false false true xs ys zs = ap (λ (x : Bool). x || nat_lt 12 (length (take 12 (xs ++ ys) ++ zs))) (or_true (nat_lt 12 (length (xs ++ ys))))
+flag_assoc false false true xs ys zs = ap (λ (x : Bool). x || nat_lt 12 (length (take 12 (xs ++ ys) ++ zs))) (or-true (nat_lt 12 (length (xs ++ ys))))
 flag_assoc false false false xs ys zs =
     let e1 = length-append xs ys in
     let e2 = length-append ys zs in

@@ -2,7 +2,8 @@
 use Rattle.std.specs.Prelude.{◌≡◌, ℕ, ◌+◌, ◌≤◌, min, Bool, false, ◌||◌, List, [], ◌++◌, length, take, nat_lt, refl}
 use Rattle.std.proofs.Common.{sym, ap, subst, ◌∙◌, append_assoc, append-nil, arith, take_all}
 use Rattle.std.proofs.Math.Bridge.{le_prop}
-use Rattle.tally.specs.Twelve.{take_front, take_back, flag_assoc, or_false, flag_right, few_of}
+use Rattle.std.proofs.Math.Bool.{or-false}
+use Rattle.tally.specs.Twelve.{take_front, take_back, flag_assoc, flag_right, few_of}
 
 -- a number that stops at 65,535
 pub record Capped : Type 0 where
@@ -80,4 +81,4 @@ pub followed_right : (a : Leading) → followed a (leading [] false) ≡ a
 followed_right a =
     let e : a.numbers ++ [] ≡ a.numbers = append-nil a.numbers in
     same_leading _ _ (ap (take 12) e ∙ take_all 12 a.numbers a.few)
-    (ap (λ (xs : List ℕ). (a.more || false) || nat_lt 12 (length xs)) e ∙ ap (λ (m : Bool). m || nat_lt 12 (length a.numbers)) (or_false a.more) ∙ flag_right a.more a.numbers a.few)
+    (ap (λ (xs : List ℕ). (a.more || false) || nat_lt 12 (length xs)) e ∙ ap (λ (m : Bool). m || nat_lt 12 (length a.numbers)) (or-false a.more) ∙ flag_right a.more a.numbers a.few)

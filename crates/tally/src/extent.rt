@@ -7,10 +7,13 @@ ghost use Rattle.tally.specs.Reaches.{reach};
 use crate::Tally;
 
 #[derive(Clone, Copy, Debug, PartialEq, Eq)]
-pub enum Extent {
-    Nowhere,
-    Across { first: u16, last: u16 },
+pub struct Ends {
+    pub first: u16,
+    pub last: u16,
 }
+
+// None where there are no nodes.
+pub type Extent = Option<Ends>;
 
 impl Tally for Extent {
     ghost Value = { Reach };
@@ -32,24 +35,20 @@ impl Tally for Extent {
     ghost right = { spanned_right };
 
     fn none() -> Extent {
-        Extent::Nowhere
+        None
     }
 
     fn marked(node: u16) -> Extent {
-        Extent::Across {
+        Some(Ends {
             first: node,
             last: node,
-        }
+        })
     }
 
     fn joined(self, other: Extent) -> Extent {
         match (self, other) {
-            (Extent::Nowhere, _) => other,
-            (_, Extent::Nowhere) => self,
-            (Extent::Across { first, .. }, Extent::Across { last, .. }) => Extent::Across {
-                first,
-                last,
-            },
+            (Some(Ends { first, .. }), Some(Ends { last, .. })) => Some(Ends { first, last }),
+            _ => self.or(other),
         }
     }
 }

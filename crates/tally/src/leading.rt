@@ -1,37 +1,44 @@
 // The first twelve nodes, and whether more follow.
-ghost use Rattle.std.specs.Prelude.{◌≡◌, ◌≤◌, false, [], ◌∷◌, take};
+ghost use Rattle.std.specs.Prelude.{◌≡◌, ◌≤◌, false, [], ◌∷◌};
 ghost use Rattle.tally.specs.Values.{Leading, leading, followed, followed_assoc, followed_left, followed_right};
 
 use crate::Tally;
 
+const MOST: usize = 12;
+
+// An array with a length, since answers are copied and an ArrayVec is not.
 #[derive(Clone, Copy)]
 pub struct LeadingTwelve {
-    nodes: [u16; 12],
+    nodes: [u16; MOST],
     len: usize,
     more: bool,
     ghost ok: { len ≤ 12 },
 }
 
 impl LeadingTwelve {
+    ghost use Rattle.tally.specs.Reaches.{leading_of};
+
     // The nodes, at most twelve.
     pub fn nodes(&self) -> &[u16]
-        ensures { result.now ≡ (leading (take self.now.len self.now.nodes) self.now.more).numbers }
+        ensures { result.now ≡ (leading_of self.now).numbers }
     {
-        &self.nodes[0..self.len]
+        &self.nodes[..self.len]
     }
 
     // Whether more nodes follow.
     pub fn more(&self) -> bool
-        ensures { result ≡ (leading (take self.now.len self.now.nodes) self.now.more).more }
+        ensures { result ≡ (leading_of self.now).more }
     {
         self.more
     }
 }
 
 impl Tally for LeadingTwelve {
+    ghost use Rattle.tally.specs.Reaches.{leading_of};
+
     ghost Value = { Leading };
 
-    ghost value = { λ t. leading (take t.len t.nodes) t.more };
+    ghost value = { leading_of };
 
     ghost empty = { leading [] false };
 
@@ -49,14 +56,14 @@ impl Tally for LeadingTwelve {
 
     fn none() -> LeadingTwelve {
         LeadingTwelve {
-            nodes: [0; 12],
+            nodes: [0; MOST],
             len: 0,
             more: false,
         }
     }
 
     fn marked(node: u16) -> LeadingTwelve {
-        let mut nodes = [0; 12];
+        let mut nodes = [0; MOST];
         nodes[0] = node;
         LeadingTwelve {
             nodes,
@@ -67,16 +74,13 @@ impl Tally for LeadingTwelve {
 
     fn joined(self, other: LeadingTwelve) -> LeadingTwelve {
         let mut nodes = self.nodes;
-        let mut len = self.len;
-        let mut more = self.more | other.more;
-        for i in 0..other.len {
-            if len < 12 {
-                nodes[len] = other.nodes[i];
-                len += 1;
-            } else {
-                more = true;
-            }
+        let taken = other.len.min(MOST - self.len);
+        let len = self.len + taken;
+        nodes[self.len..len].copy_from_slice(&other.nodes[..taken]);
+        LeadingTwelve {
+            nodes,
+            len,
+            more: self.more | other.more | (taken < other.len),
         }
-        LeadingTwelve { nodes, len, more }
     }
 }

@@ -4,23 +4,22 @@
 // as input, or `sizes` for the sizes of types. Without arguments it only says how it is made to measure.
 #![tactic(auto)]
 
+mod memory;
 mod probe;
 
-use anyhow::anyhow;
+use anyhow::Context;
 use feedtree::read_tree;
+use memory::Memory;
 use names::slot::Slot;
 use parens::paren_tree::ParenTree;
 use probe::{Kind, print_sizes, probe};
-use query::parsed::Query;
 use reader::read;
 use row_tree::row_tree::RowTree;
 use row_tree::write::write_rows;
-use scan::block::Block;
 use selector::selector::Selector;
 use std::alloc::{AllocError, Global};
 use std::time::Instant;
 use std::{env, fmt, fs};
-use stored::row::StoredRow;
 use tally::count::Count;
 use translate::translate;
 use tree::Tree;
@@ -47,12 +46,49 @@ enum Form {
     Shortest,
 }
 
+// The queries to time, a line each, and what is printed of them.
+#[derive(Clone, Copy)]
+struct Task<'a> {
+    queries: &'a str,
+    form: Form,
+}
+
 // What sweeps over a tree took, in nanoseconds.
 #[derive(Clone, Copy)]
 struct Times {
     rise: u128,
     fall: u128,
     tally: u128,
+}
+
+impl Times {
+    const NONE: Times = Times {
+        rise: 0,
+        fall: 0,
+        tally: 0,
+    };
+
+    const MOST: Times = Times {
+        rise: u128::MAX,
+        fall: u128::MAX,
+        tally: u128::MAX,
+    };
+
+    fn plus(self, other: Times) -> Times {
+        Times {
+            rise: self.rise.saturating_add(other.rise),
+            fall: self.fall.saturating_add(other.fall),
+            tally: self.tally.saturating_add(other.tally),
+        }
+    }
+
+    fn least(self, other: Times) -> Times {
+        Times {
+            rise: self.rise.min(other.rise),
+            fall: self.fall.min(other.fall),
+            tally: self.tally.min(other.tally),
+        }
+    }
 }
 
 // All turns of a query together, the shortest of them, and how many nodes were selected.
@@ -64,31 +100,19 @@ struct Turns {
 }
 
 fn main(rt: HostRuntime) -> anyhow::Result<()> {
-    start(&rt)
-}
-
-fn start(rt: &HostRuntime) -> anyhow::Result<()> {
-    let mut asked = false;
-    for word in env::args(rt)? {
-        if word.as_str() == "run" {
-            asked = true;
-        }
-    }
-    if asked {
-        measure_made(rt)
+    if env::args(&rt)?.any(|word| word.as_str() == "run") {
+        measure_made(&rt)
     } else {
-        start_other(rt)
+        start_other(&rt)
     }
 }
 
 fn start_other(rt: &HostRuntime) -> anyhow::Result<()> {
-    let mut words = env::args(rt)?;
-    let _program = words.next();
-    let first = words.next();
-    let second = words.next();
-    match first {
-        Some(word) => measure_asked(rt, word.as_str(), second),
-        None => usage(rt),
+    let mut words = env::args(rt)?.skip(1);
+    match (words.next(), words.next()) {
+        (Some(feed), Some(queries)) => measure_files(rt, feed.as_str(), queries.as_str()),
+        (Some(word), None) => probe_word(rt, word.as_str()),
+        _ => usage(rt),
     }
 }
 
@@ -97,29 +121,36 @@ fn usage(rt: &HostRuntime) -> anyhow::Result<()> {
     Ok(())
 }
 
-fn measure_asked(rt: &HostRuntime, word: &str, queries: Option<String>) -> anyhow::Result<()> {
-    match queries {
-        Some(file) => {
-            let feed = fs::read(rt, word)?;
-            let queries = fs::read_to_string(rt, file.as_str())?;
-            measure(rt, feed.as_slice(), queries.as_str(), Form::Shortest)
-        }
-        None => match word {
-            "parentheses" => probe(rt, Kind::Parentheses),
-            "rows" => probe(rt, Kind::Rows),
-            "excerpt" => probe(rt, Kind::Excerpt),
-            "sizes" => print_sizes(rt),
-            _ => usage(rt),
-        },
+fn measure_files(rt: &HostRuntime, feed: &str, queries: &str) -> anyhow::Result<()> {
+    let feed = fs::read(rt, feed)?;
+    let queries = fs::read_to_string(rt, queries)?;
+    let task = Task {
+        queries: queries.as_str(),
+        form: Form::Shortest,
+    };
+    measure(rt, feed.as_slice(), task)
+}
+
+fn probe_word(rt: &HostRuntime, word: &str) -> anyhow::Result<()> {
+    match word {
+        "parentheses" => probe(rt, Kind::Parentheses),
+        "rows" => probe(rt, Kind::Rows),
+        "excerpt" => probe(rt, Kind::Excerpt),
+        "sizes" => print_sizes(rt),
+        _ => usage(rt),
     }
 }
 
 // Trees of 512 to 8,192 nodes.
 fn measure_made(rt: &HostRuntime) -> anyhow::Result<()> {
     println!(rt; "kind nodes rise fall tally query")?;
+    let task = Task {
+        queries: QUERIES,
+        form: Form::Mean,
+    };
     for units in [170usize, 341, 682, 1365, 2730] {
         let feed = feed_of(rt.alloc(), units)?;
-        measure(rt, feed.as_slice(), QUERIES, Form::Mean)?;
+        measure(rt, feed.as_slice(), task)?;
     }
     Ok(())
 }
@@ -140,74 +171,62 @@ fn feed_of(heap: Global, units: usize) -> Result<Vec<u8>, AllocError> {
     Ok(feed)
 }
 
-fn measure(rt: &HostRuntime, feed: &[u8], queries: &str, form: Form) -> anyhow::Result<()> {
-    let heap = rt.alloc();
-    let mut bits = vec![in heap; 0u8; 2048]?;
-    let mut labels = vec![in heap; 0u16; 8192]?;
-    let mut names = vec![in heap; [0u8; 32]; 512]?;
-    let mut directory = vec![in heap; Block {
-        before: 0,
-        least: 0
-    }; 64]?;
+fn measure(rt: &HostRuntime, feed: &[u8], task: Task<'_>) -> anyhow::Result<()> {
+    let Memory {
+        mut bits,
+        mut labels,
+        mut names,
+        mut directory,
+        mut stored,
+        mut program,
+        mut work,
+    } = Memory::new(rt.alloc())?;
+    let names = names.as_mut_slice();
+    let program = program.as_mut_slice();
+    let work = work.as_mut_slice();
     let mut tree = ParenTree::lone();
-    let Ok(end) = read_tree(
+    let end = read_tree(
         &mut tree,
         feed,
         bits.as_mut_slice(),
         labels.as_mut_slice(),
-        names.as_mut_slice(),
+        names,
         directory.as_mut_slice(),
-    ) else {
-        return Err(anyhow!("the feed was refused"));
-    };
-    let Some(fed) = names.as_slice().get(0..end.names) else {
-        return Err(anyhow!("the feed was refused"));
-    };
-    measure_rows(rt, &tree, fed, queries, form)?;
-    measure_queries(rt, "parentheses", &tree, fed, queries, form)
+    )
+    .ok()
+    .context("the feed was refused")?;
+    let fed = names.get(..end.names).context("the feed was refused")?;
+    let count = write_rows(&tree, stored.as_mut_slice())
+        .ok()
+        .context("the rows were refused")?;
+    let written = stored
+        .as_slice()
+        .get(..count)
+        .context("the rows were refused")?;
+    let mut rows = RowTree::lone();
+    rows.load(written).ok().context("the rows are of no tree")?;
+    measure_tree(rt, "rows", &rows, fed, task, program, work)?;
+    measure_tree(rt, "parentheses", &tree, fed, task, program, work)
 }
 
-fn measure_rows(
-    rt: &HostRuntime,
-    tree: &ParenTree<'_>,
-    names: &[Slot],
-    queries: &str,
-    form: Form,
-) -> anyhow::Result<()> {
-    let heap = rt.alloc();
-    let mut stored = vec![in heap; StoredRow {
-        label: 0,
-        distance: 0,
-        size: 0
-    }; 8192]?;
-    let Ok(count) = write_rows(tree, stored.as_mut_slice()) else {
-        return Err(anyhow!("the rows were refused"));
-    };
-    let Some(rows) = stored.as_slice().get(0..count) else {
-        return Err(anyhow!("the rows were refused"));
-    };
-    let mut tree = RowTree::lone();
-    if tree.load(rows).is_err() {
-        return Err(anyhow!("the rows are of no tree"));
-    }
-    measure_queries(rt, "rows", &tree, names, queries, form)
-}
-
-fn measure_queries<T: Tree>(
+fn measure_tree<T: Tree>(
     rt: &HostRuntime,
     kind: &str,
     tree: &T,
     names: &[Slot],
-    queries: &str,
-    form: Form,
+    task: Task<'_>,
+    program: &mut [u8],
+    work: &mut [u64],
 ) -> anyhow::Result<()> {
-    for text in queries.lines() {
-        let Ok(query) = read(text.as_bytes()) else {
-            return Err(anyhow!("a query was refused"));
-        };
-        let turns = time_query(rt, tree, &query, names)?;
+    for text in task.queries.lines() {
+        let query = read(text.as_bytes()).ok().context("a query was refused")?;
+        let size = translate(&query, names, program)
+            .ok()
+            .context("a translation was refused")?;
+        let translation = program.get(..size).context("a translation was refused")?;
+        let turns = time_turns(rt, tree, translation, work)?;
         let nodes = tree.count();
-        match form {
+        match task.form {
             Form::Mean => print_mean(rt, kind, nodes, turns.all, query.len)?,
             Form::Shortest => print_shortest(rt, kind, nodes, turns, text)?,
         }
@@ -263,50 +282,30 @@ fn per_node(nanos: u128, nodes: usize) -> Tenths {
     Tenths(nanos.saturating_mul(10) / (nodes as u128).max(1))
 }
 
-fn time_query<T: Tree>(
+fn time_turns<T: Tree>(
     rt: &HostRuntime,
     tree: &T,
-    query: &Query,
-    names: &[Slot],
+    program: &[u8],
+    work: &mut [u64],
 ) -> anyhow::Result<Turns> {
-    let heap = rt.alloc();
-    let mut buffer = vec![in heap; 0u8; 2048]?;
-    let mut work = vec![in heap; 0u64; 8192]?;
-    let Ok(size) = translate(query, names, buffer.as_mut_slice()) else {
-        return Err(anyhow!("a translation was refused"));
-    };
-    let Some(program) = buffer.as_slice().get(0..size) else {
-        return Err(anyhow!("a translation was refused"));
-    };
     let mut selector = Selector::new();
     let mut turns = Turns {
-        all: Times {
-            rise: 0,
-            fall: 0,
-            tally: 0,
-        },
-        shortest: Times {
-            rise: u128::MAX,
-            fall: u128::MAX,
-            tally: u128::MAX,
-        },
+        all: Times::NONE,
+        shortest: Times::MOST,
         selected: 0,
     };
     for _ in 0..TURNS {
-        let (once, selected) = time_turn(rt, &mut selector, tree, program, work.as_mut_slice())?;
-        turns.all.rise = turns.all.rise.saturating_add(once.rise);
-        turns.all.fall = turns.all.fall.saturating_add(once.fall);
-        turns.all.tally = turns.all.tally.saturating_add(once.tally);
-        turns.shortest.rise = turns.shortest.rise.min(once.rise);
-        turns.shortest.fall = turns.shortest.fall.min(once.fall);
-        turns.shortest.tally = turns.shortest.tally.min(once.tally);
-        turns.selected = selected;
+        let (once, selected) = time_turn(rt, &mut selector, tree, program, work)?;
+        turns = Turns {
+            all: turns.all.plus(once),
+            shortest: turns.shortest.least(once),
+            selected,
+        };
     }
     Ok(turns)
 }
 
 // What one turn takes, and how many nodes are selected.
-
 fn time_turn<T: Tree>(
     rt: &HostRuntime,
     selector: &mut Selector,
@@ -315,23 +314,25 @@ fn time_turn<T: Tree>(
     work: &mut [u64],
 ) -> anyhow::Result<(Times, u16)> {
     let n = tree.count();
-    if selector.load(tree, program).is_err() {
-        return Err(anyhow!("a load was refused"));
-    }
-    let first = Instant::now(rt)?;
-    let risen = selector.rise(tree, work, n);
-    let rise = first.elapsed(rt)?.as_nanos();
-    let second = Instant::now(rt)?;
-    let fallen = selector.fall(tree, work, n);
-    let fall = second.elapsed(rt)?.as_nanos();
-    let third = Instant::now(rt)?;
-    let counted = selector.tally::<T, Count>(tree, work, 0, n);
-    let tally = third.elapsed(rt)?.as_nanos();
-    let Ok(selected) = counted else {
-        return Err(anyhow!("a sweep was refused"));
-    };
-    if risen.is_err() || fallen.is_err() {
-        return Err(anyhow!("a sweep was refused"));
-    }
+    selector
+        .load(tree, program)
+        .ok()
+        .context("a load was refused")?;
+    let (risen, rise) = timed(rt, || selector.rise(tree, work, n))?;
+    let (fallen, fall) = timed(rt, || selector.fall(tree, work, n))?;
+    let (counted, tally) = timed(rt, || selector.tally::<T, Count>(tree, work, 0, n))?;
+    risen.and(fallen).ok().context("a sweep was refused")?;
+    let selected = counted.ok().context("a sweep was refused")?;
     Ok((Times { rise, fall, tally }, selected.count))
+}
+
+// What a call gives, and the nanoseconds that it took.
+fn timed<R, F: FnOnce() -> R>(rt: &HostRuntime, call: F) -> anyhow::Result<(R, u128)>
+where
+    R: Drop,
+    requires { F.pre call }
+{
+    let start = Instant::now(rt)?;
+    let given = call();
+    Ok((given, start.elapsed(rt)?.as_nanos()))
 }

@@ -1,6 +1,7 @@
 // Makes the library calls on the feed and the query of standard input, so that a harness can measure the stack that each
 // takes.
-use anyhow::anyhow;
+use crate::memory::Memory;
+use anyhow::Context;
 use excerpt::Excerpt;
 use feed::types::Growing;
 use feedtree::read_tree;
@@ -60,61 +61,45 @@ pub(crate) fn print_sizes(rt: &HostRuntime) -> anyhow::Result<()> {
 // Reads a feed and a query, and makes the calls.
 pub(crate) fn probe(rt: &HostRuntime, kind: Kind) -> anyhow::Result<()> {
     let heap = rt.alloc();
-    let mut input: Vec<u8> = Vec::new(heap);
+    let mut input = Vec::new(heap);
     rt.stdin().take(READ_AT_MOST).read_to_end(&mut input)?;
-    let mut bits = vec![in heap; 0u8; 2048]?;
-    let mut labels = vec![in heap; 0u16; 8192]?;
-    let mut names = vec![in heap; [0u8; 32]; 512]?;
-    let mut directory = vec![in heap; Block {
-        before: 0,
-        least: 0
-    }; 64]?;
-    let mut stored = vec![in heap; StoredRow {
-        label: 0,
-        distance: 0,
-        size: 0
-    }; 8192]?;
-    let mut program = vec![in heap; 0u8; 2048]?;
-    let mut work = vec![in heap; 0u64; 8192]?;
-    let selected = probe_input(
-        kind,
-        input.as_slice(),
-        bits.as_mut_slice(),
-        labels.as_mut_slice(),
-        names.as_mut_slice(),
-        directory.as_mut_slice(),
-        stored.as_mut_slice(),
-        program.as_mut_slice(),
-        work.as_mut_slice(),
-    );
-    match selected {
-        Some(count) => println!(rt; "{count} selected")?,
-        None => return Err(anyhow!("a call was refused")),
-    }
+    let memory = Memory::new(heap)?;
+    let count = probe_input(kind, input.as_slice(), memory).context("a call was refused")?;
+    println!(rt; "{count} selected")?;
     Ok(())
 }
 
 // From a feed file and a query to the number of nodes selected.
-fn probe_input<'a>(
-    kind: Kind,
-    input: &[u8],
-    bits: &'a mut [u8],
-    labels: &'a mut [u16],
-    names: &mut [Slot],
-    directory: &'a mut [Block],
-    stored: &mut [StoredRow],
-    program: &mut [u8],
-    work: &mut [u64],
-) -> Option<u16> {
+fn probe_input(kind: Kind, input: &[u8], memory: Memory) -> Option<u16> {
+    let Memory {
+        mut bits,
+        mut labels,
+        mut names,
+        mut directory,
+        mut stored,
+        mut program,
+        mut work,
+    } = memory;
+    let names = names.as_mut_slice();
+    let program = program.as_mut_slice();
+    let work = work.as_mut_slice();
     let mut tree = ParenTree::lone();
-    let end = read_tree(&mut tree, input, bits, labels, names, directory).ok()?;
+    let end = read_tree(
+        &mut tree,
+        input,
+        bits.as_mut_slice(),
+        labels.as_mut_slice(),
+        names,
+        directory.as_mut_slice(),
+    )
+    .ok()?;
     let text = input.get(end.place..)?;
-    let fed = names.get(0..end.names)?;
+    let fed = names.get(..end.names)?;
     let query = read(text).ok()?;
     write_spelling(&query, program).ok()?;
     match kind {
         Kind::Parentheses => probe_tree(&tree, &query, fed, program, work),
-        Kind::Rows => probe_rows(&tree, &query, fed, stored, program, work),
+        Kind::Rows => probe_rows(&tree, &query, fed, stored.as_mut_slice(), program, work),
         Kind::Excerpt => {
             let part = Excerpt::new(&tree, INNER_NODE).ok()?;
             probe_tree(&part, &query, fed, program, work)
@@ -132,9 +117,8 @@ fn probe_rows<T: Tree>(
     work: &mut [u64],
 ) -> Option<u16> {
     let count = write_rows(tree, stored).ok()?;
-    let written = stored.get(0..count)?;
     let mut rows = RowTree::lone();
-    rows.load(written).ok()?;
+    rows.load(stored.get(..count)?).ok()?;
     probe_tree(&rows, query, names, program, work)
 }
 
@@ -151,12 +135,8 @@ fn probe_tree<T: Tree>(
     prepare(&mut selector, query, names, tree, program, work).ok()?;
     let led: LeadingTwelve = select(&mut selector, query, names, tree, program, work, 0, n).ok()?;
     let size = translate(query, names, program).ok()?;
-    let counted = probe_selector(&mut selector, tree, program.get(0..size)?, work)?;
-    if led.nodes().len() <= counted as usize {
-        Some(counted)
-    } else {
-        None
-    }
+    let counted = probe_selector(&mut selector, tree, program.get(..size)?, work)?;
+    (led.nodes().len() <= counted as usize).then_some(counted)
 }
 
 // Loads a program, sweeps in two parts each, and takes a tally of each kind.
@@ -168,15 +148,14 @@ fn probe_selector<T: Tree>(
 ) -> Option<u16> {
     let n = tree.count();
     selector.load(tree, program).ok()?;
-    selector.rise(tree, work, n / 2).ok()?;
-    selector.rise(tree, work, n).ok()?;
-    selector.fall(tree, work, n / 2).ok()?;
-    selector.fall(tree, work, n).ok()?;
+    for k in [n / 2, n] {
+        selector.rise(tree, work, k).ok()?;
+    }
+    for k in [n / 2, n] {
+        selector.fall(tree, work, k).ok()?;
+    }
     let counted: Count = selector.tally(tree, work, 0, n).ok()?;
     let reached: Extent = selector.tally(tree, work, 0, n).ok()?;
     let led: LeadingTwelve = selector.tally(tree, work, 0, n).ok()?;
-    match reached {
-        Extent::Nowhere if led.more() => None,
-        _ => Some(counted.count),
-    }
+    (reached.is_some() || !led.more()).then_some(counted.count)
 }
