@@ -25,9 +25,7 @@ fn show(rt: &HostRuntime) -> anyhow::Result<()> {
         before: 0,
         least: 0,
     }; 1];
-    if fill(&BITS, 9, &mut directory).is_err() {
-        return Err(anyhow!("the directory was refused"));
-    }
+    fill(&BITS, 9, &mut directory).map_err(|_| anyhow!("the directory was refused"))?;
     show_parens(rt, &BITS, &LABELS, &directory)
 }
 
@@ -39,9 +37,8 @@ fn show_parens<'a>(
     directory: &'a [Block],
 ) -> anyhow::Result<()> {
     let mut tree = ParenTree::lone();
-    if tree.load(bits, labels, directory, 9).is_err() {
-        return Err(anyhow!("the buffers are of no tree"));
-    }
+    tree.load(bits, labels, directory, 9)
+        .map_err(|_| anyhow!("the buffers are of no tree"))?;
     println!(rt; "as parentheses")?;
     outline(rt, &tree)?;
     show_rows(rt, &tree)
@@ -54,24 +51,19 @@ fn show_rows<T: Tree>(rt: &HostRuntime, example: &T) -> anyhow::Result<()> {
         distance: 0,
         size: 0,
     }; 16];
-    let Ok(count) = write_rows(example, &mut buffer) else {
-        return Err(anyhow!("the buffer is too small"));
-    };
-    let Some(written) = buffer.get(0..count) else {
+    let count = write_rows(example, &mut buffer).map_err(|_| anyhow!("the buffer is too small"))?;
+    let Some(written) = buffer.get(..count) else {
         return Err(anyhow!("the buffer is too small"));
     };
     let mut tree = RowTree::lone();
-    if tree.load(written).is_err() {
-        return Err(anyhow!("the written rows are of no tree"));
-    }
+    tree.load(written)
+        .map_err(|_| anyhow!("the written rows are of no tree"))?;
     println!(rt; "as rows")?;
     outline(rt, &tree)?;
     if same(example, &tree) {
         println!(rt; "both kinds give the same outline")?;
     }
-    let Ok(part) = Excerpt::new(&tree, 5) else {
-        return Err(anyhow!("the tree has no node 5"));
-    };
+    let part = Excerpt::new(&tree, 5).map_err(|_| anyhow!("the tree has no node 5"))?;
     println!(rt; "excerpt at 5")?;
     outline(rt, &part)
 }
@@ -104,13 +96,6 @@ fn close(ends: &mut Vec<usize>, v: usize) {
 
 // Whether two trees have as many nodes, with the same labels and sizes, and so the same outline.
 fn same<S: Tree, T: Tree>(a: &S, b: &T) -> bool {
-    if a.count() != b.count() {
-        return false;
-    }
-    for v in 0..a.count() {
-        if a.label(v) != b.label(v) || a.size(v) != b.size(v) {
-            return false;
-        }
-    }
-    true
+    a.count() == b.count()
+        && (0..a.count()).all(|v| a.label(v) == b.label(v) && a.size(v) == b.size(v))
 }

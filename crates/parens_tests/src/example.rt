@@ -1,6 +1,7 @@
 // The example tree 2(3(4(text)) 3(3(4)) 4) below its root, with its buffers written out.
 use parens::lengths::lengths_for;
 use parens::paren_tree::ParenTree;
+use parens::places::Places;
 use scan::block::Block;
 use scan::directory::fill;
 use std::test::*;
@@ -100,11 +101,8 @@ fn places(rt: HostRuntime) -> Result<(), Fail> {
         (10, 11),
         (14, 15),
     ];
-    for v in 0..9 {
-        match t.places(v) {
-            Some(at) => assert_eq!(rt; (at.opening, at.closing), want[v]),
-            None => assert!(rt; false),
-        }
+    for (v, (opening, closing)) in want.into_iter().enumerate() {
+        assert_eq!(rt; t.places(v), Some(Places { opening, closing }));
     }
     assert!(rt; t.places(9).is_none());
     Ok(())

@@ -2,6 +2,7 @@
 use crate::example::code;
 use crate::shapes::{Shape, written};
 use parens::paren_tree::ParenTree;
+use parens::places::Places;
 use row_tree::row_tree::RowTree;
 use row_tree::write::write_rows;
 use std::alloc::Global;
@@ -22,10 +23,7 @@ fn answers(rt: &impl Abort, t: &ParenTree<'_>, shape: Shape, n: usize) -> Result
         let closing = opening
             .wrapping_add(node.size.wrapping_mul(2))
             .wrapping_sub(1);
-        match t.places(v) {
-            Some(at) => assert_eq!(rt; (at.opening, at.closing), (opening, closing)),
-            None => assert!(rt; false),
-        }
+        assert_eq!(rt; t.places(v), Some(Places { opening, closing }));
     }
     assert_eq!(rt; t.label(n), 65535);
     assert_eq!(rt; (t.first_child(n), t.next_sibling(n)), (None, None));

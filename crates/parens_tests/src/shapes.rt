@@ -33,7 +33,7 @@ fn element(v: usize) -> u16 {
 
 // v, if it is a node of n.
 fn within(v: usize, n: usize) -> Option<usize> {
-    if v < n { Some(v) } else { None }
+    (v < n).then_some(v)
 }
 
 impl Shape {

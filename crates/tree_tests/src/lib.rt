@@ -160,10 +160,8 @@ mod tests {
     }
 
     fn load<'a>(tree: &mut RowTree<'a>, rows: &'a [StoredRow]) -> Result<(), Fail> {
-        match tree.load(rows) {
-            Ok(()) => Ok(()),
-            Err(_) => Err(Fail::new("stored rows of a tree were refused")),
-        }
+        tree.load(rows)
+            .map_err(|_| Fail::new("stored rows of a tree were refused"))
     }
 
     // Stored rows that are of no tree are refused, and the tree that was there stays.
@@ -396,12 +394,7 @@ mod tests {
             return Err(Fail::new("a buffer that is large enough was refused"));
         };
         assert_eq!(rt; written, n);
-        for (a, b) in out.iter().zip(rows.iter()) {
-            assert_eq!(rt;
-                (a.label, a.distance, a.size),
-                (b.label, b.distance, b.size)
-            );
-        }
+        assert_eq!(rt; out.as_slice(), rows);
         let mut again = RowTree::lone();
         load(&mut again, out.as_slice())?;
         let mut short = vec![in heap; StoredRow {
