@@ -5,14 +5,7 @@ abbrev pub Pick : Type 0 → (ℕ → Type 0) → ℕ → Type 0
 Pick A B zero = A
 Pick A B (suc i) = B i
 
-abbrev pub pick : {A : Type 0} {B : ℕ → Type 0} → A → ((i : ℕ) → B i) → (i : ℕ) → Pick A B i
-pick a b zero = a
-pick a b (suc i) = b i
-
-abbrev pub pick_mark : {A : Type 0} {B : ℕ → Type 0} → (ℕ → A) → ((i : ℕ) → ℕ → B i) → (i : ℕ) → ℕ → Pick A B i
-pick_mark a b zero = a
-pick_mark a b (suc i) = b i
-
-abbrev pub pick_join : {A : Type 0} {B : ℕ → Type 0} → (A → A → A) → ((i : ℕ) → B i → B i → B i) → (i : ℕ) → Pick A B i → Pick A B i → Pick A B i
-pick_join a b zero = a
-pick_join a b (suc i) = b i
+-- one more in front, of what a family has for each of its types: a value, a function to it, a join
+abbrev pub picked : {A : Type 0} {B : ℕ → Type 0} (F : Type 0 → Type 0) → F A → ((i : ℕ) → F (B i)) → (i : ℕ) → F (Pick A B i)
+picked F a b zero = a
+picked F a b (suc i) = b i

@@ -1,10 +1,10 @@
 // Several kinds of tally in one list of calls.
 ghost use Rattle.std.specs.Prelude.{◌≡◌, ℕ, zero, suc, length};
 ghost use Rattle.rows.specs.Rows.{count_of};
-ghost use Rattle.tally.specs.Monoid.{marks_of};
+ghost use Rattle.tally.specs.Monoid.{marks_of, Laws};
 ghost use Rattle.selector.specs.Calls.Call.{tally as tally_call};
 ghost use Rattle.selector.specs.Steps.{state_of, refusal, outcome, valued, told_nodes};
-ghost use Rattle.history.specs.Pick.{Pick, pick, pick_mark, pick_join};
+ghost use Rattle.history.specs.Pick.{Pick, picked};
 ghost use Rattle.history.specs.Cases.{either_value};
 
 use either::{Either, Left, Right};
@@ -14,7 +14,7 @@ use selector::selector::Selector;
 use tally::Tally;
 use tree::Tree;
 
-// Kinds of tally, numbered from 0; a number past the last means the last.
+// Kinds of tally, numbered from 0; a number past the last means the last. For each it has what a Tally has for one.
 pub trait Kinds: Sized {
     ghost Value: { ℕ → Type 0 };
 
@@ -37,11 +37,7 @@ pub trait Kinds: Sized {
     ) -> Result<Self, Fault>
         ensures { valued (value kind) result ≡ outcome (refusal (state_of selector.now) (count_of (T.rows tree.now)) (length work.now) (tally_call lo hi)) (marks_of (empty kind) (mark kind) (join kind) (told_nodes (state_of selector.now) work.now lo hi)) };
 
-    ghost assoc: { (i : ℕ) (x y z : Value i) → join i (join i x y) z ≡ join i x (join i y z) };
-
-    ghost left: { (i : ℕ) (x : Value i) → join i (empty i) x ≡ x };
-
-    ghost right: { (i : ℕ) (x : Value i) → join i x (empty i) ≡ x };
+    ghost laws: { (i : ℕ) → Laws (empty i) (join i) };
 }
 
 impl<K: Tally + Drop> Kinds for Only<K> {
@@ -55,11 +51,7 @@ impl<K: Tally + Drop> Kinds for Only<K> {
 
     ghost join = { λ _. K.Tally.join };
 
-    ghost assoc = { λ _. K.Tally.assoc };
-
-    ghost left = { λ _. K.Tally.left };
-
-    ghost right = { λ _. K.Tally.right };
+    ghost laws = { λ _. record { assoc = K.Tally.assoc; left = K.Tally.left; right = K.Tally.right } };
 
     fn tally<T: Tree>(
         _kind: u8,
@@ -78,20 +70,16 @@ impl<A: Tally + Drop, B: Kinds + Drop> Kinds for Either<A, B> {
 
     ghost value = { either_value A.Tally.value A.Tally.empty B.Kinds.value B.Kinds.empty };
 
-    ghost empty = { pick A.Tally.empty B.Kinds.empty };
+    ghost empty = { picked (λ V. V) A.Tally.empty B.Kinds.empty };
 
-    ghost mark = { pick_mark A.Tally.mark B.Kinds.mark };
+    ghost mark = { picked (λ V. ℕ → V) A.Tally.mark B.Kinds.mark };
 
-    ghost join = { pick_join A.Tally.join B.Kinds.join };
+    ghost join = { picked (λ V. V → V → V) A.Tally.join B.Kinds.join };
 
-    ghost assoc = { elim [
-      | zero ↦ λ x y z. A.Tally.assoc x y z
-      | suc i ↦ λ x y z. B.Kinds.assoc i x y z
+    ghost laws = { elim [
+      | zero ↦ record { assoc = A.Tally.assoc; left = A.Tally.left; right = A.Tally.right }
+      | suc i ↦ B.Kinds.laws i
     ] };
-
-    ghost left = { elim [ zero ↦ λ x. A.Tally.left x | suc i ↦ λ x. B.Kinds.left i x ] };
-
-    ghost right = { elim [ zero ↦ λ x. A.Tally.right x | suc i ↦ λ x. B.Kinds.right i x ] };
 
     fn tally<T: Tree>(
         kind: u8,

@@ -1,6 +1,5 @@
 use Rattle.std.proofs.Common.{◌≡◌, ℕ, ◌+◌, ◌<◌, min, List, length, take, drop, sym, ap, ◌∙◌, subst, arith, length-take}
 use Rattle.std.proofs.lemmas.List.{drop-set-lt, drop-drop}
-use Rattle.tally.specs.Monoid.{Laws}
 use Rattle.selector.specs.Steps.{state_of, fresh}
 use Rattle.history.specs.History.{Turn, Ran}
 use Rattle.history.proofs.Turns.{ran_more}
@@ -41,12 +40,8 @@ returns g c =
     λ n. subst (λ (ts : List (Turn (k.Value n))). Ran (k.empty n) (k.mark n) (k.join n) rows fresh c.args.work.now ts (state_of c.loop-i.selector) c.loop-i.work) (turns_all n (k.value n) c.loop-i.i cs gs e) (c.loop-i.invariant.0 n) in
     record {
       number = c.min-n.ensures;
-      law = λ fit n.
-          let laws : Laws (k.empty n) (k.join n) = record { assoc = m.assoc n; left = m.left n; right = m.right n } in
-          lawful laws (k.mark n) rows (g.T.Tree.lawful c.args.tree.now) (turns_by n (k.value n) cs gs) c.args.work.now (state_of c.loop-i.selector) c.loop-i.work fit (ran n);
-      means = λ fit n.
-          let laws : Laws (k.empty n) (k.join n) = record { assoc = m.assoc n; left = m.left n; right = m.right n } in
-          means laws (k.mark n) rows (g.T.Tree.lawful c.args.tree.now) (turns_by n (k.value n) cs gs) c.args.work.now (state_of c.loop-i.selector) c.loop-i.work fit (ran n);
+      law = λ fit n. lawful (m.laws n) (k.mark n) rows (g.T.Tree.lawful c.args.tree.now) (turns_by n (k.value n) cs gs) c.args.work.now (state_of c.loop-i.selector) c.loop-i.work fit (ran n);
+      means = λ fit n. means (m.laws n) (k.mark n) rows (g.T.Tree.lawful c.args.tree.now) (turns_by n (k.value n) cs gs) c.args.work.now (state_of c.loop-i.selector) c.loop-i.work fit (ran n);
       exact = (state_of c.loop-i.selector, ran);
       rest = ap (λ (j : ℕ). drop j gs) (sym at) ∙ c.loop-i.invariant.1 ∙ ap (λ (j : ℕ). drop j c.args.answers.now) at;
     }
