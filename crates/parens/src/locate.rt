@@ -100,6 +100,7 @@ impl ParenTree<'_> {
     pub fn places(&self, v: usize) -> Option<Places>
         ensures { result ≡ places_of (rows_of self.now.bits.now self.now.labels.now) v }
     {
+        // no `then`: what `pair` promises does not come through a closure
         if v < self.count {
             Some(self.pair(v))
         } else {

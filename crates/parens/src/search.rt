@@ -1,4 +1,5 @@
-// Searches over parentheses: whole bytes by the tables of excess, and what is left bit by bit.
+// Searches over parentheses: whole bytes by the tables of excess, and what is left bit by bit. Each part changes the count
+// or the excess in place, since the next part goes on with it from where this one ended.
 ghost use Rattle.std.specs.Prelude.{◌≡◌, ◌+◌, ◌*◌, ◌<◌, ◌≤◌, length};
 ghost use Rattle.shape.specs.Bits.{bits_of, openings_of};
 ghost use Rattle.parens.specs.Search.{Selects, Closes};

@@ -13,6 +13,7 @@ pub(crate) fn of_tree(rows: &[StoredRow]) -> bool
     if n == 0 || n > 8192 || !is_root(rows[0], n) {
         return false;
     }
+    // a loop: each test may be made only where the rows before it fit, which a closure given to `all` is not told
     for v in 1..n {
         if !fits(rows, v) {
             return false;
