@@ -24,6 +24,7 @@ pub(crate) fn clear(bits: &mut [u8], from: usize, to: usize)
     requires within { to ≤ 8 * length bits.old }
     ensures { bits_of bits.new ≡ cleared (bits_of bits.old) from to }
 {
+    // by places: bits are no elements of a slice
     for p in from..to {
         write_bit(bits, p, false);
     }

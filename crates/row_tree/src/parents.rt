@@ -15,6 +15,7 @@ pub(crate) fn parent(rows: &[StoredRow], v: usize) -> usize
     ensures goes_on { v < result + (at rows.now result).size }
     ensures ended { Ended rows.now result v }
 {
+    // from row to row by distances: no iterator of a slice goes so
     let mut q = v - 1;
     while end_of(rows, q) <= v {
         q -= rows[q].distance as usize;

@@ -19,6 +19,7 @@ pub fn write_rows<T: Tree>(tree: &T, out: &mut [StoredRow]) -> Result<usize, Fau
     if out.len() < n {
         return Err(Fault::Memory);
     }
+    // by number: a row is written from the rows before it
     for v in 0..n {
         let row = row_of(tree, out, v);
         out[v] = row;

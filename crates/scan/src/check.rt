@@ -40,6 +40,7 @@ fn shape_holds(bits: &[u8], labels: &[u16]) -> bool
     let mut depth = 1;
     let mut deepest = 1;
     let mut left = inner;
+    // by places: bits are no elements of a slice
     for p in 1..8 * bits.len() {
         if opens(bits, p) {
             let [label, rest @ ..] = left else {

@@ -50,6 +50,7 @@ pub(crate) fn measure(bits: &[u8], from: usize, to: usize) -> Summary
     let whole = measure_bytes(&bits[from / 8..to / 8]);
     let mut excess = whole.last;
     let mut least = whole.least;
+    // by places: the bits of a part of a byte are no elements of a slice
     for p in 8 * (to / 8)..to {
         if opens(bits, p) {
             excess += 1;

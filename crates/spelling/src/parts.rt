@@ -1,6 +1,6 @@
 // The parts of a writer of spellings.
 
-// Why a spelling is refused.
+// Why a spelling is refused: a list of its own, as each kind of call has one, though a translation has the same case.
 #[derive(Clone, Copy, Debug, PartialEq, Eq)]
 pub enum Fault {
     // memory is too small

@@ -1,4 +1,4 @@
-// Why a translation is refused.
+// Why a translation is refused: a list of its own, as each kind of call has one, though a spelling has the same case.
 
 #[derive(Clone, Copy, Debug, PartialEq, Eq)]
 pub enum Fault {
