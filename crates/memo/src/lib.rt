@@ -124,6 +124,17 @@ impl<C: Computation + Drop> Recalling<C> {
         if let Some(value) = self.memo.find(key) {
             return value;
         }
+        self.renew(key)
+    }
+
+    // The answer for the key, computed and kept. It is a call of its own, so that an answer in memory costs no more than
+    // the look there.
+    #[cold]
+    #[inline(never)]
+    fn renew(&mut self, key: C::Key) -> C::Value
+        ensures answer { result ≡ C.answer self.old key }
+        ensures same { self.new ≡ self.old }
+    {
         let value = self.computation.compute(key);
         self.memo.keep(key, value);
         value

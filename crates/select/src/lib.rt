@@ -46,7 +46,8 @@ fn has_room(count: usize, program: &[u8], work: &[u64]) -> Result<(), Fault>
 }
 
 // Translates a query, loads the translation and sweeps over all nodes of a tree. Every tally of a span in the tree is then
-// granted and tells of the nodes of the span that the query selects. A refusal changes nothing.
+// granted and tells of the nodes of the span that the query selects. A refusal changes nothing. Memory is lent at each call,
+// each piece by itself, so no struct holds the pieces together.
 pub fn prepare<T: Tree>(
     selector: &mut Selector,
     query: &Query,

@@ -39,7 +39,7 @@ impl Selector {
     fn bytes(&self) -> &[u8]
         ensures { result.now ≡ take self.now.len self.now.program }
     {
-        &self.program[0..self.len]
+        &self.program[..self.len]
     }
 
     // the bytes of the sending states

@@ -2,13 +2,11 @@
 #![tactic(auto)]
 
 pub mod calls;
-mod deciding;
 mod falling;
 pub mod fault;
 pub mod keys;
 mod marking;
 pub mod phase;
-mod rise;
 mod rising;
 pub mod seen;
 pub mod selector;

@@ -4,7 +4,8 @@ ghost use Rattle.selector.specs.Sound.{place};
 
 use crate::phase::Phase;
 
-// A selector holds its program in bytes of its own, and knows where the sending states begin.
+// A selector holds its program in bytes of its own, and knows where the sending states begin. They are an array with a
+// length beside it, since the library has no heap.
 #[derive(Drop)]
 pub struct Selector {
     pub(crate) program: [u8; 2048],

@@ -7,7 +7,7 @@ use Rattle.commands.specs.Deciding.{decide}
 use Rattle.commands.specs.Asked.{nothing, seen}
 use Rattle.commands.proofs.Asks.{decide_seen}
 use Rattle.sweep.specs.Rising.{word_at, node_at}
-use Rattle.selector.proofs.rise.Rise.word.Goals as goal
+use Rattle.selector.proofs.rising.Rise.word.Goals as goal
 
 pub returns-clause-word : goal.returns-clause-word
 unfolding word_at
