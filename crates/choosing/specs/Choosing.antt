@@ -1,5 +1,5 @@
 -- What is printed for which input.
-use Rattle.std.specs.Prelude.{◌≡◌, ℕ, ◌<◌, ◌≤◌, List, ◌++◌, length, take, drop, codes, decimal, Ok, Err, Result, String, string_bytes}
+use Rattle.std.specs.Prelude.{◌≡◌, ℕ, ◌<◌, ◌≤◌, List, ◌++◌, length, take, drop, codes, decimal, Ok, Err, Some, None, Option, Result, String, string_bytes}
 use Rattle.std.specs.declared.alloc.Global.{Global}
 use Rattle.rows.specs.Rows.{Row, Lawful, count_of}
 use Rattle.shape.specs.Bits.{bits_of}
@@ -32,6 +32,11 @@ place_of (TextOfQuery f) = query.place_of f
 -- a refusal as it is printed
 abbrev pub refusal_text : Fault → List ℕ
 refusal_text f = codes "refused " ++ (decimal (code_of f) ++ (codes " at " ++ decimal (place_of f)))
+
+-- what is printed where there is no text: nothing is said of want of memory
+abbrev pub failure_text : ChooseError → Option (List ℕ)
+failure_text (Refused f) = Some (refusal_text f)
+failure_text OutOfMemory = None
 
 -- a text tells of the nodes that the query q selects in a tree, all of them in order
 abbrev pub Tells : Store → Path → List Row → List ℕ → Type 0

@@ -66,6 +66,11 @@ pub enum ChooseError {
 }
 
 impl fmt::Display for ChooseError {
+    ghost use Rattle.choosing.specs.Choosing.{failure_text};
+
+    // the line of a refusal; of want of memory nothing is said
+    ghost output = { failure_text };
+
     fn fmt<W: fmt::Write>(&self, f: &mut fmt::Formatter<W>) -> fmt::Result {
         match self {
             ChooseError::Refused(fault) => fault.fmt(f),
@@ -104,6 +109,6 @@ impl From<AllocError> for ChooseError {
     ghost from_gives = { λ _ e. e ≡ OutOfMemory };
 
     fn from(_error: AllocError) -> ChooseError {
-        ChooseError::OutOfMemory
+        Self::OutOfMemory
     }
 }
