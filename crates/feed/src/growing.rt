@@ -71,7 +71,7 @@ impl Growing {
         label: u16,
     ) -> Result<(), Fault>
         ensures answers { result ≡ open_check (fed self.old bits.old labels.old) label }
-        ensures leaves { fed self.new bits.new labels.new ≡ after (open_check (fed self.old bits.old labels.old) label) (fed self.old bits.old labels.old) (opened (fed self.old bits.old labels.old) label) }
+        ensures leaves { let before = fed self.old bits.old labels.old in fed self.new bits.new labels.new ≡ after (open_check before label) before (opened before label) }
     {
         if label < 2 || label as usize > self.names + 1 {
             return Err(Fault::Label);
@@ -88,7 +88,7 @@ impl Growing {
     // Adds a text.
     pub fn text(&mut self, bits: &mut [u8], labels: &mut [u16]) -> Result<(), Fault>
         ensures answers { result ≡ text_check (fed self.old bits.old labels.old) }
-        ensures leaves { fed self.new bits.new labels.new ≡ after (text_check (fed self.old bits.old labels.old)) (fed self.old bits.old labels.old) (texted (fed self.old bits.old labels.old)) }
+        ensures leaves { let before = fed self.old bits.old labels.old in fed self.new bits.new labels.new ≡ after (text_check before) before (texted before) }
     {
         self.room(bits, labels)?;
         write_bit(bits, self.written, true);
@@ -115,7 +115,7 @@ impl Growing {
     // Closes the element that was opened last.
     pub fn shut(&mut self, bits: &mut [u8]) -> Result<(), Fault>
         ensures answers { (ls : List ℕ) → result ≡ shut_check (fed self.old bits.old ls) }
-        ensures leaves { (ls : List ℕ) → fed self.new bits.new ls ≡ after (shut_check (fed self.old bits.old ls)) (fed self.old bits.old ls) (shut (fed self.old bits.old ls)) }
+        ensures leaves { (ls : List ℕ) → let before = fed self.old bits.old ls in fed self.new bits.new ls ≡ after (shut_check before) before (shut before) }
     {
         self.may_shut(bits)?;
         write_bit(bits, self.written, false);
@@ -197,7 +197,7 @@ impl Growing {
         names: &mut [Slot],
     ) -> Result<(), Fault>
         ensures answers { result ≡ step_check (fed self.old bits.old labels.old) names.old command }
-        ensures leaves { fed self.new bits.new labels.new ≡ after (step_check (fed self.old bits.old labels.old) names.old command) (fed self.old bits.old labels.old) (stepped (fed self.old bits.old labels.old) command) }
+        ensures leaves { let before = fed self.old bits.old labels.old in fed self.new bits.new labels.new ≡ after (step_check before names.old command) before (stepped before command) }
         ensures stores { names.new ≡ store_after (step_check (fed self.old bits.old labels.old) names.old command) self.old.names names.old command }
     {
         match command {
