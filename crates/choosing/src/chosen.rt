@@ -23,7 +23,7 @@ pub enum Fault {
 }
 
 impl Fault {
-    // The number by which a refusal is known.
+    // The number by which a refusal is known: by a match, since cases have fields.
     pub fn code(self) -> u8
         ensures { result ≡ code_of self }
     {
@@ -46,6 +46,7 @@ impl Fault {
     }
 }
 
+// the line that a query prints of its own refusals, for feeds and lengths too
 impl fmt::Display for Fault {
     ghost output = { λ f. Some (refusal_text f) };
 

@@ -58,6 +58,7 @@ impl<'a, T: Tree> Tree for Excerpt<'a, T> {
         Some(w - self.node)
     }
 
+    // likewise, but for the root, which has none
     fn next_sibling(&self, v: usize) -> Option<usize> {
         if v == 0 || v >= self.count() {
             return None;

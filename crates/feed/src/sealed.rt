@@ -32,7 +32,7 @@ impl Sealed {
         count
     }
 
-    // Makes the tree from the memory that was fed, into a tree at hand, and is used up; memory of no tree gives the feed back.
+    // Makes the tree from the memory that was fed, into a tree at hand (a refusal leaves the one there), and is used up; memory of no tree gives the feed back.
     pub fn into_tree<'a>(
         self,
         tree: &mut ParenTree<'a>,

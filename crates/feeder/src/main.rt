@@ -12,6 +12,7 @@ use std::error::Error;
 use std::fmt;
 use std::io::{Read, Write};
 
+// As many as a growing feed takes.
 const MOST_NODES: usize = 8192;
 
 // What has been written of the feed.

@@ -5,7 +5,7 @@ ghost use Rattle.feedfile.specs.Faults.{code_of, place_of};
 use crate::command::FileFault;
 
 impl FileFault {
-    // The number by which a refusal is known: 7, or the feed's own.
+    // The number by which a refusal is known: 7, or the feed's own (by a match, since the cases have fields).
     pub fn code(self) -> u8
         ensures { result ≡ code_of self }
     {

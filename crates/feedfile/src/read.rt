@@ -12,7 +12,8 @@ use feed::types::{Growing, Sealed};
 use names::slot::Slot;
 use scan::block::Block;
 
-// Feeds the commands of a file up to its SEAL, and gives the place of that.
+// Feeds the commands of a file up to its SEAL, and gives the place of that. Memory is lent at each call, each piece by itself,
+// so no struct holds the pieces together.
 fn grow(
     feed: &mut Growing,
     file: &[u8],
@@ -23,6 +24,7 @@ fn grow(
     ensures reads { told result (fed feed.new bits.new labels.new) names.new ≡ read_file file.now (fed feed.old bits.old labels.old) names.old }
     ensures inside { elim result [ Ok p ↦ p < length file.now | Err _ ↦ Unit {0} ] }
 {
+    // no iterator of commands: a refusal tells the place, and bytes that are no command end in another way than SEAL
     let mut rest = file;
     loop {
         let place = file.len() - rest.len();

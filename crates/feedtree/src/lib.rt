@@ -49,7 +49,7 @@ pub fn read_sealed(
     })
 }
 
-// Reads a feed file into lent memory, seals the feed and makes its tree, into a tree at hand. The tree's rows are exactly
+// Reads a feed file into lent memory, seals the feed and makes its tree, into a tree at hand (a refusal leaves the one there). The tree's rows are exactly
 // the root and the nodes that the file's commands feed; it always loads. A refusal leaves the tree as it was.
 pub fn read_tree<'a>(
     tree: &mut ParenTree<'a>,
@@ -65,6 +65,7 @@ pub fn read_tree<'a>(
 {
     let (sealed, place) = read_sealed(file, bits, labels, names, directory)?;
     let names = sealed.names();
+    // no `unwrap`: the feed in the error may not be let go
     if let Err((sealed, _)) = sealed.into_tree(tree, bits, labels, directory) {
         let _ = sealed.abandon();
         return unreachable();

@@ -24,6 +24,7 @@ pub struct Reader<'a> {
     pub place: usize,
 }
 
+// not is_ascii_whitespace, which has the form feed too
 fn is_white(b: u8) -> bool
     ensures { result ≡ white b }
 {
@@ -53,7 +54,7 @@ fn past<F: Fn(u8) -> bool>(text: &[u8], from: usize, test: F) -> usize
     from + text.iter().skip(from).take_while(|b| test(**b)).count()
 }
 
-// Whether `b` stands at `at`.
+// Whether `b` stands at `at`. Here and below, the text and a place, and no reader: a look ahead has borrowed the place of that.
 fn stands(text: &[u8], at: usize, b: u8) -> bool
     ensures { result ≡ first_is b (drop at text.now) }
 {
@@ -108,7 +109,8 @@ fn token_at<'a>(text: &'a [u8], at: usize) -> Result<Reach<'a>, Fault>
     })
 }
 
-// The next token from `place` on; the place goes past it, unless it is refused.
+// The next token from `place` on; the place goes past it, unless it is refused. It is lent, since the guard of a look ahead
+// holds it and puts it back.
 fn next_token<'a>(text: &'a [u8], place: &mut usize) -> Result<Reach<'a>, Fault>
     ensures value { reached result ≡ next_from text.now place.old }
     ensures ends { EndsReach result (length text.now) }
@@ -217,6 +219,7 @@ impl<'a> Reader<'a> {
     pub fn negation(&mut self) -> Option<usize>
         ensures { Negates result self.old self.new }
     {
+        // by its fields: a reader moves on, so it is not Copy
         let mut ahead = Reader {
             text: self.text,
             place: self.place,

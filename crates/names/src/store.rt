@@ -6,7 +6,8 @@ ghost use Rattle.names.specs.Claims.{Lookup};
 use crate::laws::laws_stand;
 use crate::slot::{Slot, slot_of};
 
-// The label of a name that no slot holds.
+// The label of a name that no slot holds, and that no node of a tree has: a program asks for it as for any other, so it is no
+// Option.
 pub const NO_LABEL: u16 = 0xffff;
 
 // The names of a store; slots after these do not count.

@@ -33,7 +33,8 @@ impl<'a> ParenTree<'a> {
         }
     }
 
-    // Takes the tree of `count` nodes at the front of the buffers in place of the one that is there; a refusal leaves that one.
+    // Takes the tree of `count` nodes at the front of the buffers in place of the one that is there; a refusal leaves that one,
+    // as callers are promised: so the tree is no part of the answer.
     pub fn load(
         &mut self,
         bits: &'a [u8],

@@ -8,7 +8,8 @@ ghost use Rattle.scan.specs.Trees.{rows_of};
 
 use scan::block::Block;
 
-// The buffers are those of a tree of `count` nodes and nothing more: its parentheses, spare bits 0, its labels and its directory.
+// The buffers are those of a tree of `count` nodes and nothing more: its parentheses, spare bits 0, its labels and its
+// directory. The count is that of the labels: it is a field, since contracts of feeds say what a tree's count is.
 #[derive(Clone, Copy)]
 pub struct ParenTree<'a> {
     pub(crate) bits: &'a [u8],

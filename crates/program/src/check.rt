@@ -107,7 +107,8 @@ fn after_rule(command: Command, counts: Counts, at: Rules) -> Option<Rules>
     }
 }
 
-// whether the commands are of sending states that keep the rules, and END
+// whether the commands are of sending states that keep the rules, and END: beside formulas_keep, with another state, and it
+// reads on after END
 fn rules_keep(rules: &[u8], counts: Counts) -> bool
     ensures { result ≡ rules_keep counts (commands_of rules.now) (record { state = 0; inside = false }) }
 {
@@ -165,8 +166,6 @@ impl Fault {
     pub fn code(self) -> u8
         ensures { result ≡ code_of self }
     {
-        match self {
-            Fault::Broken => 16,
-        }
+        self as u8
     }
 }

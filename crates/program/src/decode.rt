@@ -6,6 +6,7 @@ ghost use Rattle.commands.specs.Commands.{commands_of};
 use commands::command::{Atom, Command, Kind, Move};
 
 // The first command, and the bytes after it.
+// Each arm is an opcode, its operands and the rest; the numbers are those of commands/specs/Encoded.antt.
 pub fn take_command(bytes: &[u8]) -> Option<(Command, &[u8])>
     ensures { split result ≡ taken bytes.now }
 {

@@ -3,5 +3,5 @@
 // breaks a rule for programs
 #[derive(Clone, Copy, Debug, PartialEq, Eq)]
 pub enum Fault {
-    Broken,
+    Broken = 16,
 }

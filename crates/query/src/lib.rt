@@ -13,7 +13,7 @@ use std::error::Error;
 use std::fmt;
 
 impl Fault {
-    // The number of the refusal.
+    // The number of the refusal: by a match, since `as` takes no enum whose cases have fields.
     pub fn code(self) -> u8
         ensures { result ≡ code_of self }
     {

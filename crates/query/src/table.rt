@@ -1,4 +1,4 @@
-// The steps and predicates of a query, as rows that refer to one another by their numbers.
+// The steps and predicates of a query, as rows that refer to one another by their numbers, since nothing is allocated.
 
 #[derive(Clone, Copy, Debug, PartialEq, Eq)]
 pub enum Axis {
@@ -8,7 +8,7 @@ pub enum Axis {
     FollowingSibling,
 }
 
-// A name is a part of the query's text.
+// A name is a part of the query's text, by its place, since a query is copied and borrows nothing.
 #[derive(Clone, Copy, Debug, PartialEq, Eq)]
 pub enum NodeTest {
     Element,

@@ -16,6 +16,7 @@ use query::fault::Fault;
 use query::parsed::Query;
 use query::table::{Axis, NodeTest, Predicate, Region, Shape, Step, Table};
 
+// What stands in the rows past the counts.
 const STEP: Step = Step {
     slash: false,
     axis: Axis::Child,

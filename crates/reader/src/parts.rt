@@ -2,7 +2,8 @@
 use lexer::Reader;
 use query::table::{Axis, NodeTest, Table};
 
-// What leads to a step.
+// What leads to a step. Three cases with names: is_far puts Nothing and Slash together, is_slash the two slashes, so an Option
+// would be matched twice.
 #[derive(Clone, Copy, Debug, PartialEq, Eq)]
 pub enum Lead {
     Nothing,

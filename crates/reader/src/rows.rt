@@ -56,7 +56,8 @@ pub(crate) fn write_step(table: &mut Table, region: Region, index: u8, step: Ste
     }
 }
 
-// One predicate more, where there is room, and its number.
+// One predicate more, where there is room, and its number. There is room: predicates are at most two for each of 23 steps, so no
+// refusal is due here.
 pub(crate) fn push(table: &mut Table, shape: Shape) -> u8
     ensures { Pushes (record { negations = 0; shape = shape }) result table.old table.new }
 {

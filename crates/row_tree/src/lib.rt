@@ -34,7 +34,8 @@ impl<'a> RowTree<'a> {
         RowTree { rows: &LONE }
     }
 
-    // The tree of stored rows, where they are those of a tree; a refusal changes nothing.
+    // The tree of stored rows, where they are those of a tree. It is put into a tree at hand, since callers are promised that a
+    // refusal leaves the one that was there.
     pub fn load(&mut self, rows: &'a [StoredRow]) -> Result<(), Fault>
         ensures answers { Loads rows.now result }
         ensures leaves { elim result [ Ok _ ↦ self.new.rows.now ≡ rows.now | Err _ ↦ self.new ≡ self.old ] }

@@ -5,7 +5,8 @@ ghost use Rattle.stored.specs.Fits.{Ended, Fits};
 
 use stored::row::StoredRow;
 
-// The last row before v whose subtree goes on at v, where the rows before v fit to each other.
+// The last row before v whose subtree goes on at v, where the rows before v fit to each other. A row is a number beside the
+// rows, since what is asked of it is asked of the rows before it.
 pub(crate) fn parent(rows: &[StoredRow], v: usize) -> usize
     requires after { 0 < v }
     requires within { v ≤ length rows.now }

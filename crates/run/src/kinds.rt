@@ -14,7 +14,8 @@ use selector::selector::Selector;
 use tally::Tally;
 use tree::Tree;
 
-// Kinds of tally, numbered from 0; a number past the last means the last. For each it has what a Tally has for one.
+// Kinds of tally, numbered from 0; a number past the last means the last. For each it has what a Tally has for one: a trait
+// beside Tally, since a number picks the kind, and the type of values varies with it.
 pub trait Kinds: Sized {
     ghost Value: { ℕ → Type 0 };
 

@@ -51,7 +51,7 @@ pub fn run<T: Tree, S: Kinds + Copy>(
 {
     let mut selector = Selector::new();
     let n = calls.len().min(answers.len());
-    // by index, since nothing is known of what is written through an adapter of iter_mut
+    // by index: after a zip with iter_mut nothing is known of what was written through it
     for (i, call) in calls[..n].iter().enumerate() {
         answers[i] = carry_out(&mut selector, tree, work, *call);
     }

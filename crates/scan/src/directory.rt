@@ -14,7 +14,7 @@ pub fn bytes_for(count: usize) -> usize
     count.div_ceil(4)
 }
 
-// The blocks that they make.
+// The blocks that they make. (A name for each, as the definitions have.)
 pub fn blocks_for(count: usize) -> usize
     ensures { result ≡ blocks (2 * count) }
 {

@@ -13,7 +13,8 @@ pub(crate) struct Levels {
     pub(crate) least: i32,
 }
 
-// Over whole bytes, by the tables. The least begins at 1, which no first parenthesis passes.
+// Over whole bytes, by the tables. The least begins at 1, which no first parenthesis passes. `few` keeps the excess within an
+// i32: bytes are counted before a tree is known that would bound them.
 pub(crate) fn measure_bytes(bytes: &[u8]) -> Levels
     requires { length bytes.now ≤ 2048 }
     ensures risen { result.last ≡ total_bits (bits_of bytes.now) }

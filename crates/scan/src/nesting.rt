@@ -33,6 +33,7 @@ impl Nesting<'_> {
         ensures { Decides result (directory.now ≡ directory_of (bits_of self.now.bits.now) (2 * self.now.count)) }
     {
         let mut before = 0;
+        // a loop, as in write_directory: a block is measured from the openings before it, which a closure is not told
         for (j, row) in directory.iter().enumerate() {
             let block = self.next_block(j, &mut before);
             if *row != block {
@@ -42,7 +43,8 @@ impl Nesting<'_> {
         true
     }
 
-    // Block j, with the openings before it, which then are those before the next.
+    // Block j, with the openings before it, which then are those before the next: they are changed in place, since both
+    // callers go on with them from block to block.
     fn next_block(&self, j: usize, before: &mut usize) -> Block
         requires within { j < blocks (2 * self.now.count) }
         requires counted { before.old ≡ openings (take (256 * j) (bits_of self.now.bits.now)) }

@@ -24,11 +24,7 @@ impl Fault {
     pub fn code(self) -> u8
         ensures { result ≡ code_of self }
     {
-        match self {
-            Fault::Memory => 11,
-            Fault::SmallWork => 19,
-            Fault::NoSpan => 21,
-        }
+        self as u8
     }
 }
 

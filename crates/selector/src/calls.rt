@@ -1,4 +1,5 @@
-// What each call does, by the phase and the call together.
+// What each call does, by the phase and the call together. The tree and the work area are lent at each call, so no struct
+// holds them.
 ghost use Rattle.std.specs.Prelude.{◌≡◌, true, [], length, take};
 ghost use Rattle.rows.specs.Rows.{count_of};
 ghost use Rattle.commands.specs.Commands.{commands_of};
@@ -132,9 +133,9 @@ impl Selector {
         ensures { valued K.value result ≡ outcome (refusal (state_of self.now) (count_of (T.rows tree.now)) (length work.now) (tally_call lo hi)) (marks_of K.empty K.mark K.join (told_nodes (state_of self.now) work.now lo hi)) }
     {
         self.ready(tree, work)?;
-        let Phase::Settled = self.phase else {
+        if self.phase != Phase::Settled {
             return Err(Fault::WrongPhase);
-        };
+        }
         if !lies_in(lo, hi, self.count) {
             return Err(Fault::NoSpan);
         }
@@ -151,7 +152,7 @@ impl From<ProgramFault> for Fault {
 }
 
 impl Fault {
-    // The number by which a refusal is known.
+    // The number by which a refusal is known: by a match, since one of the cases has a field.
     pub fn code(self) -> u8
         ensures { result ≡ code_of self }
     {

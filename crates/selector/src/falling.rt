@@ -141,6 +141,7 @@ pub(crate) fn fall_over<T: Tree>(tree: &T, rules: &[u8], lo: usize, hi: usize, w
         tree,
         sendings: Recalling::new(Sendings { rules }),
     };
+    // by number: the states of a node enter other words of the work area
     for v in lo..hi {
         if is_entered(work[v]) {
             fall.send(v, work);

@@ -11,7 +11,8 @@ use memo::{Computation, Recalling};
 use program::decode::Commands;
 use tally::Tally;
 
-// whether the rules mark the node of the word
+// Whether the rules mark the node of the word. Beside `sending`: a mark ends the walk and looks at the word alone, while a move
+// changes what later states see.
 fn marked(rules: &[u8], word: u64) -> bool
     ensures { result ≡ marking word (commands_of rules.now) 0 false }
 {

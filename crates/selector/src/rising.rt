@@ -47,6 +47,7 @@ struct Rise<'a, T> {
     ghost asks: { asked ≡ asked_of (commands_of words.program.now) nothing } by { Coded-set asked-code asked (asked_of (commands_of words.program.now) nothing) },
 }
 
+// The work area is written between two words, so it is lent to each.
 impl<'a, T: Tree> Rise<'a, T> {
     fn new(tree: &'a T, program: &'a [u8]) -> Rise<'a, T>
         ensures tree { result.tree.now ≡ tree.now }
@@ -59,8 +60,8 @@ impl<'a, T: Tree> Rise<'a, T> {
         }
     }
 
-    // The bits of the first child's word that are asked for; where none are, the tree is not asked. One function for both
-    // questions, which takes the question as a closure, makes a rise a fifth slower where formulas ask.
+    // The bits of the first child's word that are asked for; where none are, the tree is not asked. One method for this and the
+    // next would take the question as a closure, and its contract would have to speak of what that answers.
     fn first_seen(&self, work: &[u64], v: usize) -> u64
         ensures { result ≡ bit_and (node_at (T.rows self.now.tree.now) work.now v).first self.now.asked.first }
     {
@@ -103,12 +104,14 @@ impl<'a, T: Tree> Rise<'a, T> {
     }
 }
 
-// Writes the words of the nodes from lo to hi minus 1, the last first.
+// Writes the words of the nodes from lo to hi minus 1, the last first. The span is asked to lie in the work area, which is
+// lent and no part of a selector.
 pub(crate) fn rise_over<T: Tree>(tree: &T, program: &[u8], lo: usize, hi: usize, work: &mut [u64])
     requires { (lo ≤ hi) × (hi ≤ length work.old) }
     ensures { work.new ≡ risen (T.rows tree.now) (commands_of program.now) lo (hi - lo) work.old }
 {
     let mut rise = Rise::new(tree, program);
+    // by number: a word is written from the words of later nodes
     for v in (lo..hi).rev() {
         let word = rise.word(work, v);
         work[v] = word;

@@ -25,9 +25,7 @@ impl Fault {
     pub fn code(self) -> u8
         ensures { result ≡ code_of self }
     {
-        match self {
-            Fault::Memory => 11,
-        }
+        self as u8
     }
 }
 

@@ -4,7 +4,7 @@
 #[derive(Clone, Copy, Debug, PartialEq, Eq)]
 pub enum Fault {
     // memory is too small
-    Memory,
+    Memory = 11,
 }
 
 // Where a predicate stands: alone, beside the right of `or` or the left of `and`, beside the right of `and`.

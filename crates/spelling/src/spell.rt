@@ -31,7 +31,7 @@ fn predicate_at(query: &Query, index: u8) -> Option<Predicate>
     query.table.predicates.get(index as usize).copied()
 }
 
-// Whether `or` stands in parentheses there.
+// Whether `or` stands in parentheses there: a name for each of the two, as the definitions of the spelling have.
 fn or_wraps(place: Place) -> bool
     ensures { result ≡ or_wraps (place_of place) }
 {

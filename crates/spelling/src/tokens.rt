@@ -37,23 +37,12 @@ impl Writer {
         }
     }
 
-    // One byte more, where there is room.
-    fn put(&mut self, byte: u8)
-        ensures { Puts (byte ∷ []) self.old self.new }
-    {
-        let at = self.len;
-        if at < 512 {
-            self.bytes[at] = byte;
-            self.len = at + 1;
-        }
-    }
-
     // A space after a word.
     fn space(&mut self)
         ensures { Puts (gap_of self.old.word) self.old self.new }
     {
         if self.word {
-            self.put(b' ');
+            self.puts(b" ");
         }
     }
 
@@ -61,8 +50,10 @@ impl Writer {
     fn puts(&mut self, bytes: &[u8])
         ensures { Puts bytes.now self.old self.new }
     {
-        for byte in bytes {
-            self.put(*byte);
+        if bytes.len() <= 512 - self.len {
+            let to = self.len + bytes.len();
+            self.bytes[self.len..to].copy_from_slice(bytes);
+            self.len = to;
         }
     }
 

@@ -1,4 +1,4 @@
-// Memory for the largest tree, program and work area.
+// Memory for the largest tree, program and work area, with rows besides: that of crate choosing is private to it and has none.
 use names::slot::Slot;
 use scan::block::Block;
 use std::alloc::{AllocError, Global};

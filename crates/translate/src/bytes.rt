@@ -6,12 +6,14 @@ ghost use Rattle.translation.specs.Written.{nots};
 
 use commands::command::{Atom, Command, Kind, Move};
 
-// The front of `out` holds the bytes so far in reverse, `at` of them: what is put stands before them.
+// The front of `out` holds the bytes so far in reverse, `at` of them: what is put stands before them. The buffer is lent, and
+// turned round as a whole at last, so the number stands beside it.
 pub(crate) struct Writer<'a> {
     out: &'a mut [u8],
     at: usize,
 }
 
+// Each call asks for the room that it needs itself, so the demands differ by call and are no field of the writer.
 impl<'a> Writer<'a> {
     ghost use Rattle.translate.specs.Writing.{HasRoom, Puts};
 
@@ -53,9 +55,7 @@ impl<'a> Writer<'a> {
         ensures { Puts self.old self.new (atom_bytes atom) }
     {
         match atom {
-            Atom::Kind(Kind::Root) => self.put_operand(0x10, 0),
-            Atom::Kind(Kind::Text) => self.put_operand(0x10, 1),
-            Atom::Kind(Kind::Element) => self.put_operand(0x10, 2),
+            Atom::Kind(kind) => self.put_operand(0x10, kind as u8),
             Atom::Label(label) => self.put_label(label),
             Atom::True => self.put_byte(0x12),
             Atom::First(state) => self.put_operand(0x13, state),

@@ -3,5 +3,5 @@
 #[derive(Clone, Copy, Debug, PartialEq, Eq)]
 pub enum Fault {
     // the buffer has fewer than 2,048 bytes
-    Memory,
+    Memory = 11,
 }

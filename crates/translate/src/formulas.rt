@@ -33,6 +33,8 @@ pub(crate) fn put_asks(query: &Query, out: &mut Writer<'_>, step: u8)
     put_beginning(out, asked.axis, query.table.inside_count - (step + 1));
 }
 
+// Each of the three below is about the predicate of its own number, so each asks that this one is reached.
+
 // What a predicate says: a loop along the left sides of `or`. A call comes back here only for a predicate that is
 // grouped or negated, so calls nest by level.
 #[cycle(put_conjunction_put_member_put_predicate)]

@@ -29,9 +29,7 @@ impl Fault {
     pub fn code(self) -> u8
         ensures { result ≡ code_of self }
     {
-        match self {
-            Fault::Memory => 11,
-        }
+        self as u8
     }
 }
 
@@ -40,6 +38,7 @@ fn put_outsides(rows: &Rows<'_>, out: &mut Writer<'_>)
     requires { HasRoom out.old (length (states_code (outsides_of rows.now))) }
     ensures { Puts out.old out.new (states_code (outsides_of rows.now)) }
 {
+    // by number: the number of a step is that of its state
     for step in (0..rows.query.table.outside_count).rev() {
         put_outside(rows, out, step);
     }
@@ -50,6 +49,7 @@ fn put_insides(rows: &Rows<'_>, out: &mut Writer<'_>)
     requires { HasRoom out.old (length (states_code (insides_of rows.now))) }
     ensures { Puts out.old out.new (states_code (insides_of rows.now)) }
 {
+    // by number, likewise
     for step in 0..rows.query.table.inside_count {
         put_inside(rows, out, step);
     }

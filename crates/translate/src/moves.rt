@@ -10,7 +10,8 @@ use commands::command::{Command, Move};
 use query::parsed::Query;
 use query::table::Axis;
 
-// The move that begins a step along the axis.
+// The move that begins a step along the axis. put_beginning and put_looking match the axis likewise, for atoms and in another
+// order: what they share is the match alone.
 fn put_begin(out: &mut Writer<'_>, axis: Axis, state: u8)
     requires { HasRoom out.old 2 }
     ensures { Puts out.old out.new (begin_code (axis_of axis) state) }
@@ -22,6 +23,8 @@ fn put_begin(out: &mut Writer<'_>, axis: Axis, state: u8)
     };
     out.put(Command::Make(step));
 }
+
+// A state is a number of 0 to the outside steps of the query beside it: a type of its own would have to hold the query.
 
 // What the state does where its step's deciding state holds: it begins the next step, or marks.
 fn put_going(query: &Query, out: &mut Writer<'_>, state: u8)
@@ -99,6 +102,7 @@ pub(crate) fn put_states(query: &Query, out: &mut Writer<'_>)
     requires { HasRoom out.old (length (rules_codes (sends query.now.table 0 (query.now.table.outside_count + 1)))) }
     ensures { Puts out.old out.new (rules_codes (sends query.now.table 0 (query.now.table.outside_count + 1))) }
 {
+    // by number: states are the steps outside brackets and one more
     for state in (0..query.table.outside_count + 1).rev() {
         put_state(query, out, state);
     }

@@ -1,4 +1,5 @@
-// The rows of a query, with the store that gives its names their labels.
+// The rows of a query, with the store that gives its names their labels. They are lent beside the writer: held in it, each
+// method would owe that they stay.
 use names::slot::Slot;
 use query::parsed::Query;
 

@@ -3,9 +3,9 @@
 #[derive(Clone, Copy, Debug, PartialEq, Eq)]
 pub enum Fault {
     // memory is too small
-    Memory,
+    Memory = 11,
     // bits, labels, directory or rows are of no tree
-    NoTree,
+    NoTree = 14,
     // an excerpt's node is not in the tree
-    NoNode,
+    NoNode = 15,
 }

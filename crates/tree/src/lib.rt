@@ -10,7 +10,8 @@ pub mod fault;
 
 use fault::Fault;
 
-// The label that is answered for a number that is no node.
+// The label that is answered for a number that is no node (names, which knows no trees, has its own). Label and size are
+// plain numbers: who asks for nodes alone, as sweeps do at each, has no Option to take apart.
 pub const NO_LABEL: u16 = 0xffff;
 
 // Node numbers are counted from 0 in document order. For a number that is no node the last four questions answer NO_LABEL, none, none and 0.
@@ -25,7 +26,7 @@ pub trait Tree {
     fn count(&self) -> usize
         ensures { result ≡ count_of (rows self.now) };
 
-    // The label of node v.
+    // The label of node v: 0 at the root, 1 at a text, from 2 on a name's, as the bytes of feeds and programs have it.
     fn label(&self, v: usize) -> u16
         ensures { result ≡ label_of (rows self.now) v };
 
@@ -47,10 +48,6 @@ impl Fault {
     pub fn code(self) -> u8
         ensures { result ≡ code_of self }
     {
-        match self {
-            Fault::Memory => 11,
-            Fault::NoTree => 14,
-            Fault::NoNode => 15,
-        }
+        self as u8
     }
 }
