@@ -1,5 +1,6 @@
 -- The tallies of a list of nodes say how many there are, the first and the last, and the first twelve.
-use Rattle.std.proofs.Common.{◌≡◌, ℕ, zero, suc, ◌+◌, ◌-◌, ◌≤◌, min, Bool, false, ◌||◌, ltb, List, [], ◌∷◌, length, take, refl, ap, ◌∙◌, subst, inl, inr, arith, length-take}
+use Rattle.std.proofs.Common.{◌≡◌, ℕ, zero, suc, ◌+◌, ◌-◌, ◌≤◌, min, Bool, false, ◌||◌, ltb, leb, List, [], ◌∷◌, length, take, None, refl, ap, ◌∙◌, subst, inl, inr, arith, length-take}
+use Rattle.std.proofs.lemmas.Bool.{le-leb}
 use Rattle.std.proofs.lemmas.Bool.Decides.{nat_tests}
 use Rattle.tally.specs.Monoid.{marks_of}
 use Rattle.tally.specs.Values.{Capped, cap, add, Extent, spanned, Leading, leading, followed}
@@ -11,6 +12,8 @@ use Rattle.selection.specs.Selects.{Store, Selects}
 use Rattle.tallying.specs.Nodes.{Lists}
 use Rattle.selector.specs.Steps.{State, told_nodes}
 use Rattle.settle.specs.Settling.{Ready}
+use Rattle.select.specs.declared.fault.Fault.TheVariants.{Memory, SmallWork}
+use Rattle.select.specs.Selecting.{before, unless_so, prepare_refusal}
 use Rattle.choosing.specs.Choosing.{Tells}
 use Rattle.choosing.specs.Printed.{ends_of, report_text}
 
@@ -64,3 +67,9 @@ told_all names q rows n s ws selected ends lead text e few ready a b c t =
           ∙ ap (λ (x : Extent). report_text (count_of rows) (length vs) x lead.numbers lead.more) span ∙ ap (λ (l : List ℕ). report_text (count_of rows) (length vs) (ends_of vs) l lead.more) numbers
           ∙ ap (λ (m : Bool). report_text (count_of rows) (length vs) (ends_of vs) (take 12 vs) m) more,
     )
+
+-- memory enough is refused for nothing
+pub asks : (n p w : ℕ) → 2048 ≤ p → n ≤ w → prepare_refusal n p w ≡ None
+asks n p w a b =
+    ap (λ (t : Bool). before (unless_so t Memory) (unless_so (leb n w) SmallWork)) (le-leb 2048 p a)
+    ∙ ap (λ (t : Bool). unless_so t SmallWork) (le-leb n w b)

@@ -6,8 +6,7 @@ use Rattle.tally.specs.Reaches.{reach, leading_of}
 use Rattle.selector.specs.Steps.{state_of}
 use Rattle.select.specs.declared.fault.Fault.{Fault}
 use Rattle.select.specs.Selecting.{Prepares}
-use Rattle.select.proofs.Prepared.{asks}
-use Rattle.choosing.proofs.Tallied.{told_all}
+use Rattle.choosing.proofs.Tallied.{told_all, asks}
 use Rattle.choosing.proofs.select_text.select_text.Goals as goal
 
 pub returns : goal.returns
