@@ -1,5 +1,5 @@
 -- What is known of a parenthesis tree.
-use Rattle.std.proofs.Common.{◌≡◌, ℕ, zero, suc, ◌+◌, ◌-◌, ◌*◌, ◌/◌, ◌<◌, ◌≤◌, Bool, true, false, cond, List, [], ◌∷◌, length, get_or, take, drop, pos, ◌+ℤ◌, ◌≤ℤ◌, Some, None, sym, refl, ap, ◌∙◌, subst, arith, length-drop}
+use Rattle.std.proofs.Common.{◌≡◌, ℕ, zero, suc, ◌+◌, ◌-◌, ◌*◌, ◌/◌, ◌<◌, ◌≤◌, Bool, true, false, cond, List, [], ◌∷◌, length, get_or, take, drop, pos, ◌+ℤ◌, ◌≤ℤ◌, Some, None, sym, refl, ap, ◌∙◌, subst, arith, length-take, length-drop, get_or-take, get_or-drop}
 use Rattle.std.specs.Bool.{then_some}
 use Rattle.std.specs.List.Sorted.{IsNonDecreasingBy}
 use Rattle.std.proofs.lemmas.List.{drop_all, get_or_default}
@@ -48,6 +48,14 @@ close_length e [] = omega arith
 close_length e (true ∷ bs) = let ih = close_length (suc e) bs in omega arith
 close_length zero (false ∷ bs) = omega arith
 close_length (suc e) (false ∷ bs) = let ih = close_length e bs in omega arith
+
+-- the bytes from one place to another
+module _ (xs : List ℕ) (from to : ℕ) where
+  pub part_length : from ≤ to → to ≤ length xs → length (take (to - from) (drop from xs)) ≡ to - from
+  part_length order within = omega (arith, length-take (to - from) (drop from xs), length-drop from xs)
+
+  pub part_at : (i : ℕ) → i < to - from → get_or (take (to - from) (drop from xs)) i 0 ≡ get_or xs (from + i) 0
+  part_at i h = get_or-take (to - from) (drop from xs) i 0 h ∙ get_or-drop from xs i 0
 
 module _ (t : ParenTree) where
   pub some : 1 ≤ t.count

@@ -27,10 +27,12 @@ impl ParenTree<'_> {
     {
         let block = self.block_of(v);
         let mut left = v - self.directory[block].before as usize;
-        for i in 32 * block..self.bits.len() {
-            let inside = openings_in(self.bits[i]);
+        let from = 32 * block;
+        for (i, byte) in self.bits[from..].iter().enumerate() {
+            let inside = openings_in(*byte);
             if left < inside {
-                if let Some(p) = open_in_bits(self.bits, 8 * i, 8 * i + 8, &mut left) {
+                let at = 8 * (from + i);
+                if let Some(p) = open_in_bits(self.bits, at, at + 8, &mut left) {
                     return p;
                 }
             } else {
@@ -60,15 +62,16 @@ impl ParenTree<'_> {
         ensures { result ≡ next_closing (bits_of self.now.bits.now) from 0 }
     {
         let bytes = self.bits.len();
-        let byte = (from + 7) / 8;
+        let byte = from.div_ceil(8);
         let mut excess = 0;
         if let Some(p) = close_in_bits(self.bits, from, 8 * byte, &mut excess) {
             return p;
         }
-        let block = (byte + 31) / 32;
+        let block = byte.div_ceil(32);
         if let Some(p) = close_in_bytes(self.bits, byte, bytes.min(32 * block), &mut excess) {
             return p;
         }
+        // by number: a block is passed over by its entry and the next one, or searched from its byte 32 · j on
         for j in block..self.directory.len() {
             if let Some(after) = self.skip(j, excess) {
                 excess = after;

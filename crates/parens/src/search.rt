@@ -19,6 +19,7 @@ pub(crate) fn open_in_bits(bits: &[u8], from: usize, to: usize, left: &mut usize
     requires within { to ≤ 8 * length bits.now }
     ensures { Selects (bits_of bits.now) from left.old to left.new result }
 {
+    // by places: bits are no elements of a slice
     for p in from..to {
         if opens(bits, p) {
             if *left == 0 {
@@ -42,6 +43,7 @@ pub(crate) fn close_in_bits(
     requires low { excess.old ≤ from }
     ensures { Closes (bits_of bits.now) from excess.old to excess.new result }
 {
+    // by places: bits are no elements of a slice
     for p in from..to {
         if opens(bits, p) {
             *excess += 1;
@@ -67,15 +69,15 @@ pub(crate) fn close_in_bytes(
     requires low { excess.old ≤ 8 * from }
     ensures { Closes (bits_of bits.now) (8 * from) excess.old (8 * to) excess.new result }
 {
-    for i in from..to {
+    for (i, byte) in bits[from..to].iter().enumerate() {
         let here = *excess as i32;
-        let b = bits[i];
-        if here + (excess::least(b) as i32) < 0 {
-            if let Some(p) = close_in_bits(bits, 8 * i, 8 * i + 8, excess) {
+        if here + (excess::least(*byte) as i32) < 0 {
+            let at = 8 * (from + i);
+            if let Some(p) = close_in_bits(bits, at, at + 8, excess) {
                 return Some(p);
             }
         } else {
-            *excess = (here + (excess::total(b) as i32)) as usize;
+            *excess = (here + (excess::total(*byte) as i32)) as usize;
         }
     }
     None
