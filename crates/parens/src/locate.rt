@@ -3,11 +3,12 @@ ghost use Rattle.std.specs.Prelude.{◌≡◌, ◌+◌, ◌*◌, ◌<◌, ◌≤
 ghost use Rattle.shape.specs.Bits.{bits_of, select, next_closing};
 ghost use Rattle.scan.specs.Trees.{rows_of};
 ghost use Rattle.parens.specs.Places.{places_of};
-ghost use Rattle.parens.specs.Search.{Skips};
+ghost use Rattle.parens.specs.Search.{Skips, Closes};
 
 use crate::paren_tree::ParenTree;
 use crate::places::Places;
 use crate::search::{close_in_bits, close_in_bytes, open_in_bits, openings_in};
+use std::ops::ControlFlow;
 
 impl ParenTree<'_> {
     // The last block that has at most v openings before it.
@@ -32,8 +33,9 @@ impl ParenTree<'_> {
             let inside = openings_in(*byte);
             if left < inside {
                 let at = 8 * (from + i);
-                if let Some(p) = open_in_bits(self.bits, at, at + 8, &mut left) {
-                    return p;
+                match open_in_bits(self.bits, at, at + 8, left) {
+                    ControlFlow::Break(p) => return p,
+                    ControlFlow::Continue(more) => left = more,
                 }
             } else {
                 left -= inside;
@@ -56,35 +58,36 @@ impl ParenTree<'_> {
         Some(excess + 2 * (next.before as usize - here.before as usize) - 256)
     }
 
+    // Looks from the place `from` to the end for the closing that matches an opening just before it.
+    fn close_from(&self, from: usize) -> ControlFlow<usize, usize>
+        requires { from ≤ 8 * length self.now.bits.now }
+        ensures { Closes (bits_of self.now.bits.now) from 0 (8 * length self.now.bits.now) result }
+    {
+        let bytes = self.bits.len();
+        let byte = from.div_ceil(8);
+        let block = byte.div_ceil(32);
+        let start = close_in_bits(self.bits, from, 8 * byte, 0)?;
+        let mut excess = close_in_bytes(self.bits, byte, bytes.min(32 * block), start)?;
+        // by number: a block is passed over by its entry and the next one, or searched from its byte 32 · j on
+        for j in block..self.directory.len() {
+            if let Some(after) = self.skip(j, excess) {
+                excess = after;
+            } else {
+                excess = close_in_bytes(self.bits, 32 * j, bytes.min(32 * j + 32), excess)?;
+            }
+        }
+        ControlFlow::Continue(excess)
+    }
+
     // The place of the closing that matches an opening just before the place `from`.
     fn closing(&self, from: usize) -> usize
         requires { from ≤ 8 * length self.now.bits.now }
         ensures { result ≡ next_closing (bits_of self.now.bits.now) from 0 }
     {
-        let bytes = self.bits.len();
-        let byte = from.div_ceil(8);
-        let mut excess = 0;
-        if let Some(p) = close_in_bits(self.bits, from, 8 * byte, &mut excess) {
-            return p;
+        match self.close_from(from) {
+            ControlFlow::Break(p) => p,
+            ControlFlow::Continue(_) => 8 * self.bits.len(),
         }
-        let block = byte.div_ceil(32);
-        if let Some(p) = close_in_bytes(self.bits, byte, bytes.min(32 * block), &mut excess) {
-            return p;
-        }
-        // by number: a block is passed over by its entry and the next one, or searched from its byte 32 · j on
-        for j in block..self.directory.len() {
-            if let Some(after) = self.skip(j, excess) {
-                excess = after;
-            } else if let Some(p) = close_in_bytes(
-                self.bits,
-                32 * j,
-                bytes.min(32 * j + 32),
-                &mut excess,
-            ) {
-                return p;
-            }
-        }
-        8 * bytes
     }
 
     // The places of the parentheses of a node.

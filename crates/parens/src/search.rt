@@ -1,10 +1,11 @@
-// Searches over parentheses: whole bytes by the tables of excess, and what is left bit by bit. Each part changes the count
-// or the excess in place, since the next part goes on with it from where this one ended.
+// Searches over parentheses: whole bytes by the tables of excess, and what is left bit by bit. Each part breaks off at the
+// place that is sought, or goes on with the count or the excess at its end.
 ghost use Rattle.std.specs.Prelude.{◌≡◌, ◌+◌, ◌*◌, ◌<◌, ◌≤◌, length};
 ghost use Rattle.shape.specs.Bits.{bits_of, openings_of};
 ghost use Rattle.parens.specs.Search.{Selects, Closes};
 
 use scan::bits::opens;
+use std::ops::ControlFlow;
 
 // How many parentheses of a byte open.
 pub(crate) fn openings_in(b: u8) -> usize
@@ -14,21 +15,26 @@ pub(crate) fn openings_in(b: u8) -> usize
 }
 
 // Looks between two places for the opening that has `left` openings before it.
-pub(crate) fn open_in_bits(bits: &[u8], from: usize, to: usize, left: &mut usize) -> Option<usize>
+pub(crate) fn open_in_bits(
+    bits: &[u8],
+    from: usize,
+    to: usize,
+    mut left: usize,
+) -> ControlFlow<usize, usize>
     requires order { from ≤ to }
     requires within { to ≤ 8 * length bits.now }
-    ensures { Selects (bits_of bits.now) from left.old to left.new result }
+    ensures { Selects (bits_of bits.now) from left to result }
 {
     // by places: bits are no elements of a slice
     for p in from..to {
         if opens(bits, p) {
-            if *left == 0 {
-                return Some(p);
+            if left == 0 {
+                return ControlFlow::Break(p);
             }
-            *left -= 1;
+            left -= 1;
         }
     }
-    None
+    ControlFlow::Continue(left)
 }
 
 // Looks between two places for the closing that brings the excess below 0.
@@ -36,24 +42,24 @@ pub(crate) fn close_in_bits(
     bits: &[u8],
     from: usize,
     to: usize,
-    excess: &mut usize,
-) -> Option<usize>
+    mut excess: usize,
+) -> ControlFlow<usize, usize>
     requires order { from ≤ to }
     requires within { to ≤ 8 * length bits.now }
-    requires low { excess.old ≤ from }
-    ensures { Closes (bits_of bits.now) from excess.old to excess.new result }
+    requires low { excess ≤ from }
+    ensures { Closes (bits_of bits.now) from excess to result }
 {
     // by places: bits are no elements of a slice
     for p in from..to {
         if opens(bits, p) {
-            *excess += 1;
-        } else if *excess == 0 {
-            return Some(p);
+            excess += 1;
+        } else if excess == 0 {
+            return ControlFlow::Break(p);
         } else {
-            *excess -= 1;
+            excess -= 1;
         }
     }
-    None
+    ControlFlow::Continue(excess)
 }
 
 // The same between two bytes; a byte over which the excess stays 0 or more is passed over whole.
@@ -61,24 +67,22 @@ pub(crate) fn close_in_bytes(
     bits: &[u8],
     from: usize,
     to: usize,
-    excess: &mut usize,
-) -> Option<usize>
+    mut excess: usize,
+) -> ControlFlow<usize, usize>
     requires order { from ≤ to }
     requires within { to ≤ length bits.now }
     requires few { length bits.now ≤ 2048 }
-    requires low { excess.old ≤ 8 * from }
-    ensures { Closes (bits_of bits.now) (8 * from) excess.old (8 * to) excess.new result }
+    requires low { excess ≤ 8 * from }
+    ensures { Closes (bits_of bits.now) (8 * from) excess (8 * to) result }
 {
     for (i, byte) in bits[from..to].iter().enumerate() {
-        let here = *excess as i32;
+        let here = excess as i32;
         if here + (excess::least(*byte) as i32) < 0 {
             let at = 8 * (from + i);
-            if let Some(p) = close_in_bits(bits, at, at + 8, excess) {
-                return Some(p);
-            }
+            excess = close_in_bits(bits, at, at + 8, excess)?;
         } else {
-            *excess = (here + (excess::total(*byte) as i32)) as usize;
+            excess = (here + (excess::total(*byte) as i32)) as usize;
         }
     }
-    None
+    ControlFlow::Continue(excess)
 }

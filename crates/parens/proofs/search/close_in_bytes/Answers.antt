@@ -3,9 +3,10 @@ use Rattle.std.proofs.lemmas.Int.{ints}
 use Rattle.excess.specs.Excess.{total_of, least_of}
 use Rattle.shape.specs.Bits.{bits_of, close}
 use Rattle.shape.proofs.Steps.{close_byte, byte_least, byte_openings, byte_few}
+use Rattle.parens.specs.Search.{Closes}
 use Rattle.parens.proofs.Facts.{part_length, part_at}
 use Rattle.parens.proofs.search.close_in_bytes.Goals as goal
-use Rattle.parens.proofs.search.close_in_bytes.Goals.{then-here-least-lt0+in_default, else-here-least-lt0}
+use Rattle.parens.proofs.search.close_in_bytes.Goals.{then-here-least-lt0+in_ok-excess, else-here-least-lt0}
 
 -- a byte opens 8 nodes at most
 grown : (b e f : ℕ) → pos f ≡ pos e +ℤ total_of b → f ≤ e + 8
@@ -24,7 +25,7 @@ pub loop-i-init : goal.loop-i-init
 loop-i-init c =
     let z : c.args.from ≡ c.args.from + 0 = omega arith in
     let low = c.requires.low in
-    (ap (λ (n : ℕ). 8 * n + close c.args.excess.now (drop (8 * n) (bits_of c.args.bits.now))) z, omega arith)
+    (ap (λ (n : ℕ). 8 * n + close c.args.excess (drop (8 * n) (bits_of c.args.bits.now))) z, omega arith)
 
 pub overflow_cast-here : goal.overflow_cast-here
 overflow_cast-here c = let h = c.loop-i.invariant.1 in let long = part_length c.args.bits.now c.args.from c.args.to c.requires.order c.requires.within in search rules
@@ -35,8 +36,8 @@ overflow_add-here c = let h = c.loop-i.invariant.1 in let long = part_length c.a
 pub close_in_bits-requires : goal.close_in_bits-requires
 close_in_bits-requires c = let long = part_length c.args.bits.now c.args.from c.args.to c.requires.order c.requires.within in record { order = omega arith; within = omega arith; low = c.loop-i.invariant.1 }
 
-pub returns-in-Some : goal.returns-in-Some
-returns-in-Some c = c.loop-i.invariant.0 ∙ c.in-Some.ensures
+pub returns-in_err-excess : goal.returns-in_err-excess
+returns-in_err-excess c = subst (Closes (bits_of c.args.bits.now) (8 * c.args.from) c.args.excess (8 * c.args.to)) (sym c.from_residual.ensures) (c.loop-i.invariant.0 ∙ c.in_err-excess.ensures)
 
 pub overflow_add-excess : goal.overflow_add-excess
 overflow_add-excess c = let h = c.loop-i.invariant.1 in let long = part_length c.args.bits.now c.args.from c.args.to c.requires.order c.requires.within in search (rules, ints)
@@ -64,10 +65,10 @@ loop-i-preserved c =
     let next : i + 1 ≡ from + (c.loop-i.i + 1) = omega arith in
     let at = λ (x p : ℕ). 8 * p + close x (drop (8 * p) (bits_of xs)) in
     elim c.if-here-least-lt0.branch [
-      | then-here-least-lt0+in_default w ↦
-          let k = w.in_default.ensures in
+      | then-here-least-lt0+in_ok-excess w ↦
+          let k = w.in_ok-excess.ensures in
           let z : 8 * i + 8 ≡ 8 * (from + (c.loop-i.i + 1)) = omega arith in (
-            c.loop-i.invariant.0 ∙ k.0 ∙ ap (λ (p : ℕ). p + close w.close_in_bits.new.excess (drop p (bits_of xs))) z ∙ ap (λ (x : ℕ). at x (from + (c.loop-i.i + 1))) (sym w.excess-is),
+            c.loop-i.invariant.0 ∙ k.0 ∙ ap (λ (p : ℕ). p + close w.in_ok-excess.excess (drop p (bits_of xs))) z ∙ ap (λ (x : ℕ). at x (from + (c.loop-i.i + 1))) (sym w.excess-is),
             omega (arith, k.1, w.excess-is),
           )
       | else-here-least-lt0 w ↦

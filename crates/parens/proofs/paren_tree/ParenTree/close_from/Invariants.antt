@@ -1,6 +1,6 @@
 use Rattle.std.proofs.Common.{◌≡◌, ◌+◌, ◌*◌, ◌≤◌, min, length, drop}
 use Rattle.shape.specs.Bits.{bits_of, close}
-use Rattle.parens.proofs.paren_tree.ParenTree.closing.Given as goal
+use Rattle.parens.proofs.paren_tree.ParenTree.close_from.Given as goal
 
 -- the search has come to the start of block j, or to the end
 abbrev pub invariant-loop-j : goal.invariant-loop-j
