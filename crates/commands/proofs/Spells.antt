@@ -108,10 +108,6 @@ unfolding commands_of
 commands_none [] e = refl
 commands_none (op ∷ bs) e = ap (λ (t : Taken). spelled t (commands (length bs))) e
 
--- the same, as the code learns it
-pub next_command : (bs : List ℕ) (c d : Command) (rest : List ℕ) → found c rest ≡ taken bs → c ≡ d → d ∷ commands_of rest ≡ commands_of bs
-next_command bs c d rest e is = ap (λ (x : Command). x ∷ commands_of rest) (sym is) ∙ sym (commands_more bs c rest (sym e))
-
 -- the commands take no more bytes than there are, and each takes some
 spelled_widths : (n : ℕ) (bs : List ℕ) → ((rest : List ℕ) → widths (commands n rest) ≤ length rest) → (t : Taken) → taken bs ≡ t → widths (spelled t (commands n)) ≤ length bs
 spelled_widths n bs short None e = omega arith

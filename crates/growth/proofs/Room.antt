@@ -7,11 +7,5 @@ use Rattle.growth.specs.Steps.{Fed, begin_check, room, shut_check, seal_check}
 pub roomy : (f : Fed) → room f ≡ Ok tt → (f.nodes < 8192) × (f.written + f.due + 2 ≤ length f.bits) × (f.nodes < length f.labels)
 roomy f e = (grind (arith, nat_tests), grind (arith, nat_tests), grind (arith, nat_tests))
 
-pub started : (bits : List Bool) (labels : List ℕ) → begin_check bits labels ≡ Ok tt → (2 ≤ length bits) × (1 ≤ length labels)
-started bits labels e = (grind (arith, nat_tests), grind (arith, nat_tests))
-
-pub shuts : (f : Fed) → shut_check f ≡ Ok tt → (f.written + f.due ≤ length f.bits) × (2 ≤ f.due)
-shuts f e = (grind (arith, nat_tests), grind (arith, nat_tests))
-
 pub seals : (f : Fed) (d : ℕ) → seal_check f d ≡ Ok tt → (f.written + f.due ≤ length f.bits) × (blocks (2 * f.nodes) ≤ d) × (f.due ≤ 1)
 seals f d e = (grind (arith, nat_tests), grind (arith, nat_tests), grind (arith, nat_tests))

@@ -56,12 +56,3 @@ module _ {S : Type 0} {V : ℕ → Type 0} (f : (i : ℕ) → S → V i) (empty 
       Ok (f k x) ≡ outcome (refusal s (count rows) (length ws) (tally lo hi)) (marks_of (empty k) (mark k) (join k) (told_nodes s ws lo hi)) →
       answer_by (f i) (eqb k i) (Ok (Value x)) ≡ reply (empty i) (mark i) (join i) rows s ws (cond (eqb k i) (tally lo hi) (other lo hi))
   seen k i s ws lo hi x h = go k i (eqb k i) refl s ws lo hi x h
-
--- a tally of any kind changes nothing
-pub state_same : (rows : List Row) (s : State) (ws : List ℕ) (lo hi : ℕ) (t : Bool) → s ≡ state_after rows s ws (cond t (tally lo hi) (other lo hi))
-state_same rows s ws lo hi true = granted_same (refusal s (count rows) (length ws) (tally lo hi)) s
-state_same rows s ws lo hi false = granted_same (refusal s (count rows) (length ws) (other lo hi)) s
-
-pub words_same : (rows : List Row) (s : State) (ws : List ℕ) (lo hi : ℕ) (t : Bool) → ws ≡ words_after rows s ws (cond t (tally lo hi) (other lo hi))
-words_same rows s ws lo hi true = granted_same (refusal s (count rows) (length ws) (tally lo hi)) ws
-words_same rows s ws lo hi false = granted_same (refusal s (count rows) (length ws) (other lo hi)) ws

@@ -106,7 +106,7 @@ impl ParenTree<'_> {
     pub fn places(&self, v: usize) -> Option<Places>
         ensures { result ≡ places_of (rows_of self.now.bits.now self.now.labels.now) v }
     {
-        // no `then`: what `pair` promises does not come through a closure
+        // no `then`: of what a closure `|| self.pair(v)` gives back the proof of the whole found nothing
         if v < self.count {
             Some(self.pair(v))
         } else {

@@ -1,5 +1,6 @@
 // Searches over parentheses: whole bytes by the tables of excess, and what is left bit by bit. Each part breaks off at the
-// place that is sought, or goes on with the count or the excess at its end.
+// place that is sought, or goes on with the count or the excess at its end. A stretch is named by its two places, in bits or in
+// bytes of one buffer: a struct would have to be made anew for each part.
 ghost use Rattle.std.specs.Prelude.{◌≡◌, ◌+◌, ◌*◌, ◌<◌, ◌≤◌, length};
 ghost use Rattle.shape.specs.Bits.{bits_of, openings_of};
 ghost use Rattle.parens.specs.Search.{Selects, Closes};

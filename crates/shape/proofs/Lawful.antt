@@ -212,39 +212,11 @@ pub walk_on : (k m : ℕ) (bs : List Bool) (l : ℕ) (ls : List ℕ) (p : ℕ) �
 walk_on k m bs l ls p hp b h =
     walk_at_opening k m bs l ls p hp b ∙ ap (λ (x : Bool). x && walk (suc k) (reach_of k l) (drop (p + 1) bs) ls) h ∙ sym (ap (λ (x : ℕ). walk x (reach_of k l) (drop (p + 1) bs) ls) (add-one k))
 
-pub walk_refused : (k m : ℕ) (bs : List Bool) (l : ℕ) (ls : List ℕ) (p : ℕ) → p < length bs → get_or bs p false ≡ true → (leb 1 k && leb k m && inner_label l) ≡ false → walk k m (drop p bs) (l ∷ ls) ≡ false
-walk_refused k m bs l ls p hp b h = walk_at_opening k m bs l ls p hp b ∙ ap (λ (x : Bool). x && walk (suc k) (reach_of k l) (drop (p + 1) bs) ls) h
-
-pub walk_unlabelled : (k m : ℕ) (bs : List Bool) (p : ℕ) → p < length bs → get_or bs p false ≡ true → walk k m (drop p bs) [] ≡ false
-walk_unlabelled k m bs p hp b = ap (λ (x : List Bool). walk k m x []) (drop_more bs p false hp ∙ ap (λ (x : Bool). x ∷ drop (p + 1) bs) b)
-
 pub walk_closed : (k m : ℕ) (bs : List Bool) (ls : List ℕ) (p : ℕ) → p < length bs → get_or bs p false ≡ false → walk k m (drop p bs) ls ≡ walk (k - 1) m (drop (p + 1) bs) ls
 walk_closed k m bs ls p hp b = ap (λ (x : List Bool). walk k m x ls) (drop_more bs p false hp ∙ ap (λ (x : Bool). x ∷ drop (p + 1) bs) b)
 
 pub walk_ended : (k m : ℕ) (bs : List Bool) (ls : List ℕ) (p : ℕ) → length bs ≤ p → walk k m (drop p bs) ls ≡ (eqb k 0 && eqb (length ls) 0)
 walk_ended k m bs ls p hp = ap (λ (x : List Bool). walk k m x ls) (drop_all p bs hp)
-
--- what a whole walk refuses at once
-pub refused_bits : (bs : List Bool) (ls : List ℕ) → length bs ≡ 0 → false ≡ walk_all bs ls
-refused_bits [] ls h = refl
-refused_bits (b ∷ bs) ls h = absurd (omega arith)
-
-pub refused_labels : (bs : List Bool) (ls : List ℕ) → length ls ≡ 0 → false ≡ walk_all bs ls
-refused_labels [] ls h = refl
-refused_labels (false ∷ bs) ls h = refl
-refused_labels (true ∷ bs) [] h = refl
-refused_labels (true ∷ bs) (l ∷ ls) h = absurd (omega arith)
-
-pub refused_closing : (bs : List Bool) (ls : List ℕ) → get_or bs 0 false ≡ false → false ≡ walk_all bs ls
-refused_closing [] ls h = refl
-refused_closing (false ∷ bs) ls h = refl
-refused_closing (true ∷ bs) ls h = let z : ◌≡◌ {A = ℕ} 0 1 = cc in absurd (omega arith)
-
-pub refused_root : (bs : List Bool) (ls : List ℕ) → (get_or ls 0 0 ≡ 0 → ⊥) → false ≡ walk_all bs ls
-refused_root [] ls h = refl
-refused_root (false ∷ bs) ls h = refl
-refused_root (true ∷ bs) [] h = refl
-refused_root (true ∷ bs) (l ∷ ls) h = sym (and_left _ _ (and_left _ _ (ne_eqb l 0 h)))
 
 pub walk_same : (k i m n : ℕ) (ls qs : List ℕ) (bs : List Bool) → k ≡ i → m ≡ n → ls ≡ qs → walk k m bs ls ≡ walk i n bs qs
 walk_same k i m n ls qs bs a b c = ap (λ (x : ℕ). walk x m bs ls) a ∙ ap (λ (x : ℕ). walk i x bs ls) b ∙ ap (walk i n bs) c

@@ -23,12 +23,6 @@ puts_join cs bs v w x f g = (
   g.1 ∙ f.1,
 )
 
-pub puts_more : (bs : List ℕ) (i : ℕ) (v w x : Writer) → i < length bs → Puts (take i bs) v w → Puts (get_or bs i 0 ∷ []) w x → Puts (take (i + 1) bs) v x
-puts_more bs i v w x lt f g = subst (λ l. Puts l v x) (sym (take_more bs i 0 lt)) (puts_join (take i bs) (get_or bs i 0 ∷ []) v w x f g)
-
-pub puts_all : (bs : List ℕ) (i : ℕ) (v w : Writer) → length bs ≤ i → Puts (take i bs) v w → Puts bs v w
-puts_all bs i v w h f = subst (λ l. Puts l v w) (take_all i bs h) f
-
 written : (v : Writer) → length (take v.len v.bytes) ≡ v.len
 written v = length-take v.len v.bytes ∙ omega (arith, v.whole, v.fits)
 
@@ -40,15 +34,9 @@ emit bs b f v w e p us h =
     let q = p.0 (omega (arith, whole, length-append front (bs ++ gapped b us), length-append bs (gapped b us), written v)) in
     ap (λ l. front ++ l) (e us) ∙ sym (append_assoc front bs (gapped b us)) ∙ ap (λ l. l ++ gapped b us) (sym q.1)
 
-pub emit_symbol : (s : Symbol) (v w : Writer) → Puts (glyph s) v w → (us : List Token) → length (total v (symbol s ∷ us)) ≤ 512 → total v (symbol s ∷ us) ≡ take w.len w.bytes ++ gapped false us
-emit_symbol s v w p = emit (glyph s) false (λ us. symbol s ∷ us) v w (λ us. refl) p
-
 gap_word : (b : Bool) (z : List ℕ) (us : List Token) → gapped b (word z ∷ us) ≡ (gap_of b ++ z) ++ gapped true us
 gap_word true z us = refl
 gap_word false z us = refl
-
-pub emit_word : (z : List ℕ) (v x w : Writer) → Puts (gap_of v.word) v x → Puts z x w → (us : List Token) → length (total v (word z ∷ us)) ≤ 512 → total v (word z ∷ us) ≡ take w.len w.bytes ++ gapped true us
-emit_word z v x w f g = emit (gap_of v.word ++ z) true (λ us. word z ∷ us) v w (gap_word v.word z) (puts_join (gap_of v.word) z v x w f g)
 
 -- one after the other
 pub emits : (f g : List Token → List Token) (v w x : Writer) → Emits f v w → Emits g w x → Emits (λ us. f (g us)) v x

@@ -13,9 +13,6 @@ puts_more f g = record { same = g.same ∙ f.same; long = g.long ∙ f.long; add
 pub puts_as : {w v : Writer} {xs ys : List ℕ} → xs ≡ ys → Puts w v xs → Puts w v ys
 puts_as e p = record { same = p.same; long = p.long; adds = adds_as e p.adds }
 
-pub leaves_all : (whole : List ℕ) (w : Writer) → Leaves whole w whole w
-leaves_all whole w = record { same = refl; long = refl; remains = remains_all whole w.out.now w.at }
-
 pub leaves_less : {whole left less xs : List ℕ} {w v u : Writer} → Leaves whole w left v → left ≡ less ++ xs → Puts v u xs → Leaves whole w less u
 leaves_less {less = less} l e p = record { same = p.same ∙ l.same; long = p.long ∙ l.long; remains = remains_less {less = less} l.remains e p.adds }
 

@@ -4,7 +4,7 @@ ghost use Rattle.commands.specs.Decoded.{atom_width, move_width, width};
 ghost use Rattle.commands.specs.Encoded.{atom_bytes, move_bytes, command_bytes};
 ghost use Rattle.translation.specs.Written.{nots};
 
-use commands::command::{Atom, Command, Kind, Move};
+use commands::command::{Atom, Command, Move};
 
 // The front of `out` holds the bytes so far in reverse, `at` of them: what is put stands before them. The buffer is lent, and
 // turned round as a whole at last, so the number stands beside it.

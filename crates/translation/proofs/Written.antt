@@ -6,13 +6,6 @@ use Rattle.translation.specs.Written.{text_of, Adds, Remains}
 pub adds_none : (out : List ℕ) (at : ℕ) → Adds out at out at []
 adds_none out at = record { text = refl; rest = refl; many = omega arith }
 
-pub adds_byte : (out : List ℕ) (at b : ℕ) → at < length out → Adds out at (set out at b) (at + 1) (b ∷ [])
-adds_byte out at b h = record {
-  text = ap reverse (take_more_set out at b h) ∙ reverse-append (take at out) (b ∷ []);
-  rest = drop-set-lt (at + 1) out at b (omega arith);
-  many = refl;
-}
-
 drop_further : (a b : ℕ) (x y : List ℕ) → a ≤ b → drop a x ≡ drop a y → drop b x ≡ drop b y
 drop_further a b x y h e =
     let s : a + (b - a) ≡ b = omega arith in
