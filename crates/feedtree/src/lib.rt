@@ -24,7 +24,7 @@ pub struct FileEnd {
 
 // Reads a feed file into lent memory and seals the feed: the sealed feed and the place after SEAL. The memory then holds the
 // tree of exactly the nodes fed. Memory too small for the root is refused at place 0; a refusal keeps in memory what the
-// commands before fed.
+// commands before fed. Memory is lent at each call, each piece by itself, so no struct holds the pieces together.
 pub fn read_sealed(
     file: &[u8],
     bits: &mut [u8],

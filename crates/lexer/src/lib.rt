@@ -61,7 +61,7 @@ fn stands(text: &[u8], at: usize, b: u8) -> bool
     text.get(at) == Some(&b)
 }
 
-// The name that begins at `at`.
+// The name that begins at `at`. That a token ends in the text is said here and by the next two: a Reach has no text of its own.
 fn name_at<'a>(text: &'a [u8], at: usize) -> Result<Reach<'a>, Fault>
     requires { at < length text.now }
     ensures value { reached result ≡ placed at (name_of (drop at text.now)) }

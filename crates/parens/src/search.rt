@@ -63,7 +63,8 @@ pub(crate) fn close_in_bits(
     ControlFlow::Continue(excess)
 }
 
-// The same between two bytes; a byte over which the excess stays 0 or more is passed over whole.
+// The same between two bytes; a byte over which the excess stays 0 or more is passed over whole. `few` keeps the excess within
+// an i32.
 pub(crate) fn close_in_bytes(
     bits: &[u8],
     from: usize,

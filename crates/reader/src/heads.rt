@@ -1,4 +1,6 @@
-// Reading what stands before a step, its axis and its node test.
+// Reading what stands before a step, its axis and its node test. A reader takes a text of any length, so functions here ask that
+// this one is short. Where a token is missing a `match` answers and no `ok_or_else`: what a closure leaves of a reader that it
+// borrows is not known.
 ghost use Rattle.std.specs.Prelude.{◌≡◌, ◌<◌, length};
 ghost use Rattle.lexer.specs.Readers.{end_of, Spans};
 ghost use Rattle.query.specs.Shown.{axis_of};

@@ -5,7 +5,8 @@ ghost use Rattle.selector.specs.Sound.{place};
 use crate::phase::Phase;
 
 // A selector holds its program in bytes of its own, and knows where the sending states begin. They are an array with a
-// length beside it, since the library has no heap.
+// length beside it, since the library has no heap. Before a load the phase is Empty and there are no bytes: an Option around the
+// program would have to be made and moved in.
 #[derive(Drop)]
 pub struct Selector {
     pub(crate) program: [u8; 2048],

@@ -107,7 +107,7 @@ fn probe_input(kind: Kind, input: &[u8], memory: Memory) -> Option<u16> {
     }
 }
 
-// The rows of a tree.
+// The rows of a tree. The tree borrows other parts of Memory, so what is left goes piece by piece.
 fn probe_rows<T: Tree>(
     tree: &T,
     query: &Query,
