@@ -1,6 +1,7 @@
 -- Formulas say the same of a node as far as they see it.
 use Rattle.std.proofs.Common.{◌≡◌, ℕ, ◌+◌, ◌^◌, ◌<◌, Bool, true, false, ◌&&◌, ◌||◌, List, [], ◌∷◌, sym, refl, ap, ◌∙◌, ⊎_elim}
 use lib.Bits.{bit_and}
+use Rattle.std.proofs.Math.Bool.{and-true}
 use Rattle.std.proofs.lemmas.Bool.{cases_lt}
 use Rattle.std.specs.List.{fold}
 use Rattle.words.specs.Bit.{bit, with_bit, put_bit}
@@ -70,16 +71,12 @@ covers (First p) cs a = λ h. (grows cs (with_atom (First p) a)).first p (bit_se
 covers (Next p) cs a = λ h. (grows cs (with_atom (Next p) a)).next p (bit_set a.next p h)
 covers (Here p) cs a = tt
 
-and_true : (b : Bool) → (b && true) ≡ b
-and_true true = refl
-and_true false = refl
-
 -- a bit that the mask keeps
 masked : (w m p : ℕ) → w < 2 ^ 64 → (p < 64 → bit m p ≡ true) → bit (bit_and w m) p ≡ bit w p
 masked w m p fits has =
     bit-and w m p
     ∙ ⊎_elim
-    (λ h. ap (λ (b : Bool). bit w p && b) (has h) ∙ and_true (bit w p))
+    (λ h. ap (λ (b : Bool). bit w p && b) (has h) ∙ and-true (bit w p))
     (λ h. let none = bit_past 64 w p fits h in ap (λ (b : Bool). b && bit m p) none ∙ sym none)
     (cases_lt p 64)
 

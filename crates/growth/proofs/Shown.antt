@@ -9,7 +9,8 @@ use Rattle.rows.proofs.Laws.{to_lawful}
 use Rattle.excess.specs.Excess.{bits}
 use Rattle.shape.specs.Bits.{bits_of}
 use Rattle.shape.specs.Shape.{closing, parens_onto, labels_of}
-use Rattle.shape.proofs.Bytes.{bits_length}
+use Rattle.shape.proofs.Bytes.{bits_length, bits_take}
+use Rattle.shape.proofs.Lawful.{closing_length}
 use Rattle.scan.specs.Directory.{blocks, bytes, directory_of}
 use Rattle.scan.specs.Filling.{short, filled}
 use Rattle.scan.proofs.Blocks.{directory_length}
@@ -17,18 +18,6 @@ use Rattle.parens.proofs.Decided.{tree_of_rows}
 use Rattle.growth.specs.Steps.{cleared}
 use Rattle.growth.specs.Claims.{SealedShows}
 use Rattle.growth.proofs.Growth.{then_due}
-
--- the bits of the first bytes
-bits_take : (bs : List ℕ) (k : ℕ) → bits_of (take k bs) ≡ take (8 * k) (bits_of bs)
-bits_take bs zero = refl
-bits_take [] (suc k) = let z : 8 * suc k ≡ suc (8 * k + 7) = omega arith in sym (ap (λ (n : ℕ). take n []) z)
-bits_take (b ∷ bs) (suc k) =
-    let z : 8 * suc k ≡ suc (suc (suc (suc (suc (suc (suc (suc (8 * k)))))))) = omega arith in
-    ap (λ (l : List Bool). bits 8 b ++ l) (bits_take bs k) ∙ sym (ap (λ (n : ℕ). take n (bits_of (b ∷ bs))) z)
-
-closing_length : (n : ℕ) (t : List Bool) → length (closing n t) ≡ n + length t
-closing_length zero t = omega arith
-closing_length (suc n) t = let ih = closing_length n t in omega arith
 
 cleared_long : (bs : List Bool) (p q : ℕ) → p ≤ q → p ≤ length bs → q ≤ length (cleared bs p q)
 cleared_long bs p q h k =

@@ -17,10 +17,10 @@ use Rattle.history.specs.History.{Progress}
 use Rattle.history.specs.Bits.{WordsMean}
 use Rattle.history.proofs.Stages.{Stage, Held, rules, FallingWords, RisingSo}
 
-same_some : (o : Option (List ℕ)) (a b : List ℕ) → o ≡ Some a → o ≡ Some b → a ≡ b
+pub same_some : (o : Option (List ℕ)) (a b : List ℕ) → o ≡ Some a → o ≡ Some b → a ≡ b
 same_some o a b p q = cc
 
-not_both : (o : Option (List ℕ)) (b : List ℕ) → o ≡ None → o ≡ Some b → ⊥
+pub not_both : (o : Option (List ℕ)) (b : List ℕ) → o ≡ None → o ≡ Some b → ⊥
 not_both o b p q = let z : ◌≡◌ {A = ℕ} 0 1 = cc in omega arith
 
 module _ (rows : List Row) (tree : LawfulRows rows) where

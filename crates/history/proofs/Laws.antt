@@ -31,7 +31,7 @@ use Rattle.selector.specs.Steps.{State, refusal, unless_so, before, state_after,
 use Rattle.history.specs.History.{Turn, Progress, start, granted, counted, after, progress, reply_by, reply, Ran}
 use Rattle.history.specs.Law.{Due, Told, Fair, Bracketing, one, two, first, last, total, Among, Adjoin, NoLoad, Lawful}
 use Rattle.history.specs.Bits.{WordsMean}
-use Rattle.history.proofs.Bits.{words_mean}
+use Rattle.history.proofs.Bits.{words_mean, same_some, not_both}
 use Rattle.history.proofs.Loads.{accepted_loads, loads_accepted}
 use Rattle.history.proofs.Stages.{Stage, Held, mk, unready_is, step, length_after, rules, FallingWords, SettledSo}
 
@@ -61,12 +61,6 @@ marked_same rows cs xs ys v zero e h = refl
 marked_same rows cs xs ys v (suc k) e h =
     ap (λ (w : ℕ). cond (marking w cs 0 false) (v ∷ marked_nodes cs xs (v + 1) k) (marked_nodes cs xs (v + 1) k)) (e v (omega arith))
     ∙ ap (λ (l : List ℕ). cond (is_marked cs ys v) (v ∷ l) l) (marked_same rows cs xs ys (v + 1) k e (omega arith))
-
-some_same : (o : Option (List ℕ)) (a b : List ℕ) → o ≡ Some a → o ≡ Some b → a ≡ b
-some_same o a b p q = cc
-
-some_none : (o : Option (List ℕ)) (b : List ℕ) → o ≡ None → o ≡ Some b → ⊥
-some_none o b p q = let z : ◌≡◌ {A = ℕ} 0 1 = cc in omega arith
 
 -- the program stays where no load is granted
 program_stays : (p : Progress) (c : Call) (g : Bool) → ((b : List ℕ) → c ≡ load b → g ≡ true → ⊥) → (counted p c g).program ≡ p.program
@@ -108,7 +102,7 @@ module _ {V : Type 0} {empty : V} {join : V → V → V} (laws : Laws empty join
 
   -- what a tally that is due asks is granted
   pub due_none : (p : Progress) (c : List ℕ) (m : ℕ) (ph : Phase) (ws : List ℕ) (lo hi : ℕ) → count rows ≤ length ws → Stage rows p c m ws ph → Due (count rows) p lo hi → asked c m ph ws lo hi ≡ None
-  due_none p c m Empty ws lo hi fit h d = absurd (some_none p.program d.program.0 h d.program.1)
+  due_none p c m Empty ws lo hi fit h d = absurd (not_both p.program d.program.0 h d.program.1)
   due_none p c m (Rising l) ws lo hi fit h d = absurd (omega (arith, h.sum, h.more, d.risen))
   due_none p c m (Falling x) ws lo hi fit h d = absurd (omega (arith, h.sum, h.more, d.fallen))
   due_none p c m Settled ws lo hi fit h d =
@@ -142,11 +136,11 @@ module _ {V : Type 0} {empty : V} {join : V → V → V} (laws : Laws empty join
 
   given_selected : (p : Progress) (c : List ℕ) (m : ℕ) (ph : Phase) (ws : List ℕ) (lo hi : ℕ) → count rows ≤ length ws → Stage rows p c m ws ph → Due (count rows) p lo hi →
       (b : List ℕ) (P : Program) → p.program ≡ Some b → Denotes b P → Told empty mark join (Marks P rows) lo (hi - lo) (reply empty mark join rows (mk c m ph) ws (tally lo hi))
-  given_selected p c m Empty ws lo hi fit h d b P e den = absurd (some_none p.program d.program.0 h d.program.1)
+  given_selected p c m Empty ws lo hi fit h d b P e den = absurd (not_both p.program d.program.0 h d.program.1)
   given_selected p c m (Rising l) ws lo hi fit h d b P e den = absurd (omega (arith, h.sum, h.more, d.risen))
   given_selected p c m (Falling x) ws lo hi fit h d b P e den = absurd (omega (arith, h.sum, h.more, d.fallen))
   given_selected p c m Settled ws lo hi fit h d b P e den =
-      let same : b ≡ c = sym (some_same p.program c b h.on.program e) in
+      let same : b ≡ c = sym (same_some p.program c b h.on.program e) in
       let own : Denotes c P = subst (λ (l : List ℕ). Denotes l P) same den in
       record {
         nodes = marked_nodes (rules c) ws lo (hi - lo);
@@ -156,7 +150,7 @@ module _ {V : Type 0} {empty : V} {join : V → V → V} (laws : Laws empty join
 
   given_value : (p : Progress) (c : List ℕ) (m : ℕ) (ph : Phase) (ws : List ℕ) (lo hi : ℕ) → count rows ≤ length ws → Stage rows p c m ws ph → Due (count rows) p lo hi →
       reply empty mark join rows (mk c m ph) ws (tally lo hi) ≡ value (ideal p.program lo hi)
-  given_value p c m Empty ws lo hi fit h d = absurd (some_none p.program d.program.0 h d.program.1)
+  given_value p c m Empty ws lo hi fit h d = absurd (not_both p.program d.program.0 h d.program.1)
   given_value p c m (Rising l) ws lo hi fit h d = absurd (omega (arith, h.sum, h.more, d.risen))
   given_value p c m (Falling x) ws lo hi fit h d = absurd (omega (arith, h.sum, h.more, d.fallen))
   given_value p c m Settled ws lo hi fit h d =

@@ -27,7 +27,7 @@ use Rattle.grammar.proofs.Descent.{path_unit}
 use Rattle.grammar.proofs.Glance.{plain_step}
 use Rattle.reader.proofs.Keeping.{preds_path_lem, preds_below, own_one, stay_pred, stay_path, nots_in, raise, keeps_trans, on_moved, on_same, gain, gain_as, moves, same_end, fit_after, pushed, negated}
 
-nope : {X : Type 0} → true ≡ false → X
+pub nope : {X : Type 0} → true ≡ false → X
 nope h = let z : ◌≡◌ {A = ℕ} 0 1 = cc in absurd (omega arith)
 
 -- a level closes

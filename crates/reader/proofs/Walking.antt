@@ -22,10 +22,7 @@ use Rattle.reader.specs.Parsing.{Fit, Starts, Keeps, Gained, runs, fails, owns, 
 use Rattle.grammar.proofs.Descent.{path_word}
 use Rattle.grammar.specs.Machine.{same}
 use Rattle.reader.proofs.Keeping.{preds_filter_lem, keep_path, keep_filter, on_trans, on_moved, on_same, gain, gain_as, moves, same_end, fit_after}
-use Rattle.reader.proofs.Telling.{with}
-
-nope : {X : Type 0} → true ≡ false → X
-nope h = let z : ◌≡◌ {A = ℕ} 0 1 = cc in absurd (omega arith)
+use Rattle.reader.proofs.Telling.{with, nope}
 
 -- where a path begins without a slash, its first step is due
 not_negates : (z : List ℕ) (ts : List Placed) → (same z not_word && next_is symbols.LeftParen ts) ≡ false → z ≡ not_word → next_is symbols.LeftParen ts ≡ false

@@ -19,9 +19,7 @@ use Rattle.std.proofs.lemmas.Bool.{le-ltb}
 use Rattle.lexer.specs.Readers.{Ends}
 use Rattle.reader.specs.Answers.{Parsed}
 use Rattle.reader.proofs.Keeping.{same_end}
-
-nope : {X : Type 0} → true ≡ false → X
-nope h = let z : ◌≡◌ {A = ℕ} 0 1 = cc in absurd (omega arith)
+use Rattle.reader.proofs.Telling.{nope}
 
 pub record Fresh (bs : List ℕ) (p : Parser) : Type 0 where
   pub text : p.reader.text.now ≡ bs
