@@ -21,7 +21,7 @@ fn query_at(input: &[u8], place: usize) -> Result<Query, QueryFault>
     read(&input[place..])
 }
 
-// What an input answers, by memory that it uses up.
+// What an input answers, by memory that it uses up: the tree borrows three of the pieces, so they are taken apart here.
 fn answer(heap: Global, input: &[u8], memory: Memory) -> Result<String, ChooseError>
     requires { length input.now ≤ 65536 }
     ensures { Chooses input.now result }

@@ -41,6 +41,7 @@ pub(crate) fn select_text<T: Tree>(
     ensures { IfOk result (λ s. Tells names.now (query_of query.now) (T.rows tree.now) (string_bytes s)) }
 {
     let mut selector = Selector::new();
+    // granted, since there is memory enough; its other clause tells what is then ready
     let _ = prepare(&mut selector, query, names, tree, program, work);
     let n = tree.count();
     let selected: Count = whole(&selector, tree, work, n);

@@ -184,6 +184,7 @@ impl Growing {
             names,
         } = self;
         clear(bits, written, 8 * bytes_for(nodes));
+        // granted, since may_seal has asked for its memory
         let _ = fill(bits, nodes, directory);
         Ok(Sealed { nodes, names })
     }

@@ -44,6 +44,7 @@ pub fn slot_of(name: &[u8]) -> Option<Slot>
     ensures { result ≡ slot_of name.now }
 {
     let mut slot = [0_u8; 32];
+    // by a test: of a slot that is written through `get_mut` the proof knows the length alone
     if name.len() > slot.len() {
         return None;
     }

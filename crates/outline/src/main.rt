@@ -84,7 +84,7 @@ fn outline<T: Tree>(rt: &HostRuntime, tree: &T) -> anyhow::Result<()> {
     Ok(())
 }
 
-// Takes off the ends up to v.
+// Takes off the ends up to v: each turn takes one off, which shows that it ends, and the first that goes on is put back.
 fn close(ends: &mut Vec<usize>, v: usize) {
     while let Some(end) = ends.pop() {
         if end > v {

@@ -2,5 +2,4 @@ pub mod Begin
 pub mod Keeping
 pub mod Telling
 pub mod Walking
-pub mod Whole
 pub mod Other

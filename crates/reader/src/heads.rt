@@ -1,6 +1,5 @@
 // Reading what stands before a step, its axis and its node test. A reader takes a text of any length, so functions here ask that
-// this one is short. Where a token is missing a `match` answers and no `ok_or_else`: what a closure leaves of a reader that it
-// borrows is not known.
+// this one is short. Where a token is missing a `match` answers: an `ok_or_else` would borrow the reader once more and say no more.
 ghost use Rattle.std.specs.Prelude.{◌≡◌, ◌<◌, length};
 ghost use Rattle.lexer.specs.Readers.{end_of, Spans};
 ghost use Rattle.query.specs.Shown.{axis_of};

@@ -87,6 +87,7 @@ impl Parser<'_> {
             return Err(Fault::Deep(at));
         }
         let inner = self.predicate(levels - 1)?;
+        // a `match`: an `ok_or_else` would borrow the reader once more and say no more
         match self.reader.accept(shut) {
             Some(_) => Ok(inner),
             None => Err(self.reader.unexpected()),

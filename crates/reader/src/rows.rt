@@ -1,4 +1,4 @@
-// Writing the rows of a table.
+// Writing the rows of a table. They are no methods of Table, which stands in crate query: its rows are written here alone.
 ghost use Rattle.std.specs.Prelude.{◌≡◌, slice_set};
 ghost use Rattle.reader.specs.Rows.{index_in, Counts, Begun, Writes, Pushes, Negated};
 ghost use Rattle.query.specs.Shown.{where_of};
@@ -37,7 +37,8 @@ pub(crate) fn begin(table: &mut Table, region: Region, at: usize) -> Result<(), 
     Ok(())
 }
 
-// Writes a row, where there is such a row.
+// Writes a row, where there is such a row. By a test and an index, here and in negate: of rows that are written through `get_mut`
+// the proof knows the length alone.
 fn write(rows: &mut [Step], index: u8, step: Step)
     ensures { rows.new ≡ slice_set rows.old index step }
 {

@@ -38,7 +38,7 @@ fn fits(rows: &[StoredRow], v: usize) -> bool
     ensures { Decides result (Fits rows.now v) }
 {
     let row = rows[v];
-    if row.label < 1 || row.label > 513 || row.size < 1 {
+    if !matches!(row.label, 1..=513) || row.size < 1 {
         return false;
     }
     let p = parent(rows, v);

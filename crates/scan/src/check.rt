@@ -63,7 +63,7 @@ fn shape_holds(bits: &[u8], labels: &[u16]) -> bool
 fn may_follow(depth: usize, deepest: usize, label: u16) -> bool
     ensures { result ≡ (nat_le 1 depth && nat_le depth deepest && inner_label label) }
 {
-    1 <= depth && depth <= deepest && 1 <= label && label <= 513
+    (1..=deepest).contains(&depth) && (1..=513).contains(&label)
 }
 
 // The deepest row that may follow one of that depth and label: none is below a text.

@@ -1,5 +1,5 @@
 // The deciding states of all nodes, from the last node down.
-ghost use Rattle.std.specs.Prelude.{◌≡◌, ◌-◌, ◌≤◌, length, bit_and};
+ghost use Rattle.std.specs.Prelude.{◌≡◌, ◌-◌, ◌≤◌, length};
 ghost use base.Stored.{Coded-set};
 ghost use Rattle.commands.specs.Commands.{commands_of};
 ghost use Rattle.commands.specs.Deciding.{decide};
@@ -60,36 +60,17 @@ impl<'a, T: Tree> Rise<'a, T> {
         }
     }
 
-    // The bits of the first child's word that are asked for; where none are, the tree is not asked. One method for this and the
-    // next would take the question as a closure, and its contract would have to speak of what that answers.
-    fn first_seen(&self, work: &[u64], v: usize) -> u64
-        ensures { result ≡ bit_and (node_at (T.rows self.now.tree.now) work.now v).first self.now.asked.first }
-    {
-        if self.asked.first == 0 {
-            return 0;
-        }
-        asked_word(work, self.tree.first_child(v)) & self.asked.first
-    }
-
-    // likewise for the next sibling
-    fn next_seen(&self, work: &[u64], v: usize) -> u64
-        ensures { result ≡ bit_and (node_at (T.rows self.now.tree.now) work.now v).next self.now.asked.next }
-    {
-        if self.asked.next == 0 {
-            return 0;
-        }
-        asked_word(work, self.tree.next_sibling(v)) & self.asked.next
-    }
-
-    // What the formulas see of node v, as far as they ask.
+    // What the formulas see of node v, as far as they ask: a question to the tree whose answer none asks for is not put.
     fn seen(&self, work: &[u64], v: usize) -> Node
         ensures exact { result ≡ seen_of self.now.asked (node_at (T.rows self.now.tree.now) work.now v) }
         ensures fits { Fits (node_at (T.rows self.now.tree.now) work.now v) }
     {
+        let first = (self.asked.first != 0).then(|| self.tree.first_child(v));
+        let next = (self.asked.next != 0).then(|| self.tree.next_sibling(v));
         Node {
             label: self.tree.label(v),
-            first: self.first_seen(work, v),
-            next: self.next_seen(work, v),
+            first: asked_word(work, first.flatten()) & self.asked.first,
+            next: asked_word(work, next.flatten()) & self.asked.next,
         }
     }
 

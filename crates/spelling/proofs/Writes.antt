@@ -14,29 +14,8 @@ append-nil (x ∷ xs) = ap (λ z. x ∷ z) (append-nil xs)
 pub puts_nil : (v : Writer) → Puts [] v v
 puts_nil v = (λ h. (omega arith, sym (append-nil (take v.len v.bytes))), refl)
 
-pub puts_join : (cs bs : List ℕ) (v w x : Writer) → Puts cs v w → Puts bs w x → Puts (cs ++ bs) v x
-puts_join cs bs v w x f g = (
-  λ h. let n = length-append cs bs in
-      let p = f.0 (omega (arith, n)) in
-      let q = g.0 (omega (arith, n, p.0)) in
-      (omega (arith, n, p.0, q.0), q.1 ∙ ap (λ l. l ++ bs) p.1 ∙ append_assoc (take v.len v.bytes) cs bs),
-  g.1 ∙ f.1,
-)
-
 written : (v : Writer) → length (take v.len v.bytes) ≡ v.len
 written v = length-take v.len v.bytes ∙ omega (arith, v.whole, v.fits)
-
--- bytes that the tokens f us begin with
-emit : (bs : List ℕ) (b : Bool) (f : List Token → List Token) (v w : Writer) → ((us : List Token) → gapped v.word (f us) ≡ bs ++ gapped b us) → Puts bs v w → (us : List Token) → length (total v (f us)) ≤ 512 → total v (f us) ≡ take w.len w.bytes ++ gapped b us
-emit bs b f v w e p us h =
-    let front = take v.len v.bytes in
-    let whole : length (front ++ (bs ++ gapped b us)) ≤ 512 = subst (λ l. length (front ++ l) ≤ 512) (e us) h in
-    let q = p.0 (omega (arith, whole, length-append front (bs ++ gapped b us), length-append bs (gapped b us), written v)) in
-    ap (λ l. front ++ l) (e us) ∙ sym (append_assoc front bs (gapped b us)) ∙ ap (λ l. l ++ gapped b us) (sym q.1)
-
-gap_word : (b : Bool) (z : List ℕ) (us : List Token) → gapped b (word z ∷ us) ≡ (gap_of b ++ z) ++ gapped true us
-gap_word true z us = refl
-gap_word false z us = refl
 
 -- one after the other
 pub emits : (f g : List Token → List Token) (v w x : Writer) → Emits f v w → Emits g w x → Emits (λ us. f (g us)) v x

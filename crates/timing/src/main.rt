@@ -8,6 +8,7 @@ mod memory;
 mod probe;
 
 use anyhow::Context;
+use feedfile::opcode;
 use feedtree::read_tree;
 use memory::Memory;
 use names::slot::Slot;
@@ -159,15 +160,25 @@ fn measure_made(rt: &HostRuntime) -> anyhow::Result<()> {
 fn feed_of(heap: Global, units: usize) -> Result<Vec<u8>, AllocError> {
     let mut feed = Vec::new(heap);
     for name in [b"card", b"step", b"warn"] {
-        feed.push(0x04)?;
+        feed.push(opcode::NAME)?;
         feed.extend_from_slice(name)?;
         feed.extend_from_slice(&[0u8; 28])?;
     }
-    feed.extend_from_slice(&[0x01, 0, 2])?;
+    feed.extend_from_slice(&[opcode::OPEN, 0, 2])?;
     for _ in 0..units {
-        feed.extend_from_slice(&[0x01, 0, 3, 0x01, 0, 4, 0x03, 0x02, 0x02])?;
+        feed.extend_from_slice(&[
+            opcode::OPEN,
+            0,
+            3,
+            opcode::OPEN,
+            0,
+            4,
+            opcode::TEXT,
+            opcode::SHUT,
+            opcode::SHUT,
+        ])?;
     }
-    feed.extend_from_slice(&[0x02, 0x0f])?;
+    feed.extend_from_slice(&[opcode::SHUT, opcode::SEAL])?;
     Ok(feed)
 }
 

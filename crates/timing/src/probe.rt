@@ -69,7 +69,8 @@ pub(crate) fn probe(rt: &HostRuntime, kind: Kind) -> anyhow::Result<()> {
     Ok(())
 }
 
-// From a feed file and a query to the number of nodes selected.
+// From a feed file and a query to the number of nodes selected. The tree borrows three of the pieces of memory, so they are taken
+// apart here.
 fn probe_input(kind: Kind, input: &[u8], memory: Memory) -> Option<u16> {
     let Memory {
         mut bits,

@@ -50,6 +50,7 @@ impl<'a> Writer<'a> {
         self.put_operand(0x11, high);
     }
 
+    // The opcodes, here and below, are those of commands/specs/Encoded.antt.
     fn put_atom(&mut self, atom: Atom)
         requires { HasRoom self.old (atom_width atom) }
         ensures { Puts self.old self.new (atom_bytes atom) }

@@ -27,11 +27,3 @@ loop-step-preserved c =
     let q = c.args.rows.now.query.now in
     let b = outsides_before c.args.rows.now.names.now (text_in q) q.table c.loop-step.step q.table.outside_count (omega arith) c.loop-step.invariant.0 in
     (omega arith, puts_as (sym b.0) (puts_more c.loop-step.invariant.1 c.put_outside.ensures))
-
-pub returns : goal.returns
-returns c =
-    let q = c.args.rows.now.query.now in
-    let k = q.table.outside_count in
-    let z : c.loop-step.step ≡ 0 = omega arith in
-    let n : k - 0 ≡ k = omega arith in
-    puts_as (ap (λ i. states_code (outsides c.args.rows.now.names.now (text_in q) q.table i (k - i))) z ∙ ap (λ x. states_code (outsides c.args.rows.now.names.now (text_in q) q.table 0 x)) n) c.loop-step.invariant.1

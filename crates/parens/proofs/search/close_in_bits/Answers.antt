@@ -5,18 +5,6 @@ use Rattle.shape.proofs.Steps.{close_found, close_opened, close_closed}
 use Rattle.parens.proofs.search.close_in_bits.Goals as goal
 use Rattle.parens.proofs.search.close_in_bits.Goals.{then-opens, else-opens+else-excess-eq0}
 
-pub loop-p-init : goal.loop-p-init
-loop-p-init c = (refl, c.requires.low)
-
-pub overflow_add-excess : goal.overflow_add-excess
-overflow_add-excess c = search rules
-
-pub returns-then-excess-eq0 : goal.returns-then-excess-eq0
-returns-then-excess-eq0 c =
-    let xs = c.args.bits.now in
-    let in-range : c.loop-p.p < length (bits_of xs) = omega (arith, bits_length xs) in
-    c.loop-p.invariant.0 ∙ close_found (bits_of xs) c.loop-p.p c.loop-p.excess in-range (sym c.if-opens.ensures) c.if-excess-eq0.true
-
 pub loop-p-preserved : goal.loop-p-preserved
 loop-p-preserved c =
     let xs = c.args.bits.now in
@@ -28,9 +16,3 @@ loop-p-preserved c =
       | then-opens w ↦ (c.loop-p.invariant.0 ∙ close_opened (bits_of xs) p c.loop-p.excess in-range (sym c.opens.ensures ∙ w.if-opens.true) ∙ ap to (sym w.excess-is), omega (arith, w.excess-is))
       | else-opens+else-excess-eq0 w ↦ (c.loop-p.invariant.0 ∙ close_closed (bits_of xs) p c.loop-p.excess in-range (sym c.opens.ensures ∙ w.if-opens.false) w.if-excess-eq0.false ∙ ap to (sym w.excess-is), omega (arith, w.excess-is))
     ]
-
-pub returns : goal.returns
-returns c =
-    let e : c.loop-p.p ≡ c.args.to = omega arith in
-    let h = c.loop-p.invariant.1 in
-    (c.loop-p.invariant.0 ∙ ap (λ (n : ℕ). n + close c.loop-p.excess (drop n (bits_of c.args.bits.now))) e, omega arith)

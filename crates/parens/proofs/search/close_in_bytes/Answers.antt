@@ -21,27 +21,6 @@ summed b e f r small is low h =
     let few = byte_few b in
     omega (arith, ints)
 
-pub loop-i-init : goal.loop-i-init
-loop-i-init c =
-    let z : c.args.from ≡ c.args.from + 0 = omega arith in
-    let low = c.requires.low in
-    (ap (λ (n : ℕ). 8 * n + close c.args.excess (drop (8 * n) (bits_of c.args.bits.now))) z, omega arith)
-
-pub overflow_cast-here : goal.overflow_cast-here
-overflow_cast-here c = let h = c.loop-i.invariant.1 in let long = part_length c.args.bits.now c.args.from c.args.to c.requires.order c.requires.within in search rules
-
-pub overflow_add-here : goal.overflow_add-here
-overflow_add-here c = let h = c.loop-i.invariant.1 in let long = part_length c.args.bits.now c.args.from c.args.to c.requires.order c.requires.within in search (rules, ints)
-
-pub close_in_bits-requires : goal.close_in_bits-requires
-close_in_bits-requires c = let long = part_length c.args.bits.now c.args.from c.args.to c.requires.order c.requires.within in record { order = omega arith; within = omega arith; low = c.loop-i.invariant.1 }
-
-pub returns-in_err-excess : goal.returns-in_err-excess
-returns-in_err-excess c = subst (Closes (bits_of c.args.bits.now) (8 * c.args.from) c.args.excess (8 * c.args.to)) (sym c.from_residual.ensures) (c.loop-i.invariant.0 ∙ c.in_err-excess.ensures)
-
-pub overflow_add-excess : goal.overflow_add-excess
-overflow_add-excess c = let h = c.loop-i.invariant.1 in let long = part_length c.args.bits.now c.args.from c.args.to c.requires.order c.requires.within in search (rules, ints)
-
 pub overflow_cast-excess-else-here-least-lt0 : goal.overflow_cast-excess-else-here-least-lt0
 overflow_cast-excess-else-here-least-lt0 c =
     let h = c.loop-i.invariant.1 in
@@ -83,10 +62,3 @@ loop-i-preserved c =
             omega (arith, grown b e f new),
           )
     ]
-
-pub returns : goal.returns
-returns c =
-    let long = part_length c.args.bits.now c.args.from c.args.to c.requires.order c.requires.within in
-    let e : c.args.from + c.loop-i.i ≡ c.args.to = omega (arith, c.loop-i.auto.i-end) in
-    let h = c.loop-i.invariant.1 in
-    (c.loop-i.invariant.0 ∙ ap (λ (n : ℕ). 8 * n + close c.loop-i.excess (drop (8 * n) (bits_of c.args.bits.now))) e, omega arith)

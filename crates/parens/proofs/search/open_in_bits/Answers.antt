@@ -5,15 +5,6 @@ use Rattle.shape.proofs.Steps.{select_found, select_opened, select_closed}
 use Rattle.parens.proofs.search.open_in_bits.Goals as goal
 use Rattle.parens.proofs.search.open_in_bits.Goals.{then-opens+else-left-eq0, else-opens}
 
-pub loop-p-init : goal.loop-p-init
-loop-p-init c = refl
-
-pub returns-then-left-eq0 : goal.returns-then-left-eq0
-returns-then-left-eq0 c =
-    let xs = c.args.bits.now in
-    let in-range : c.loop-p.p < length (bits_of xs) = omega (arith, bits_length xs) in
-    c.loop-p.invariant ∙ select_found (bits_of xs) c.loop-p.p c.loop-p.left in-range (sym c.if-opens.ensures) c.if-left-eq0.true
-
 pub loop-p-preserved : goal.loop-p-preserved
 loop-p-preserved c =
     let xs = c.args.bits.now in
@@ -24,8 +15,3 @@ loop-p-preserved c =
       | then-opens+else-left-eq0 w ↦ c.loop-p.invariant ∙ select_opened (bits_of xs) p c.loop-p.left in-range (sym c.opens.ensures ∙ w.if-opens.true) w.if-left-eq0.false ∙ ap to (sym w.left-is)
       | else-opens w ↦ c.loop-p.invariant ∙ select_closed (bits_of xs) p c.loop-p.left in-range (sym c.opens.ensures ∙ w.if-opens.false) ∙ ap to (sym w.left-is)
     ]
-
-pub returns : goal.returns
-returns c =
-    let e : c.loop-p.p ≡ c.args.to = omega arith in
-    c.loop-p.invariant ∙ ap (λ (n : ℕ). n + select c.loop-p.left (drop n (bits_of c.args.bits.now))) e

@@ -9,12 +9,6 @@ use Rattle.translate.proofs.moves.put_states.Goals as goal
 pub overflow_step-state : goal.overflow_step-state
 overflow_step-state c = let few = outside_few c.args.query.now in omega arith
 
-pub loop-state-init : goal.loop-state-init
-loop-state-init c =
-    let q = c.args.query.now.table in
-    let z : 0 ≡ q.outside_count + 1 - (q.outside_count + 1) = omega arith in
-    (omega arith, puts_as (ap (λ n. rules_codes (sends q (q.outside_count + 1) n)) z) (puts_none c.args.out.now))
-
 pub put_state-requires : goal.put_state-requires
 put_state-requires c =
     let q = c.args.query.now.table in
@@ -28,10 +22,3 @@ loop-state-preserved c =
     let q = c.args.query.now.table in
     let b = sends_before [] [] q c.loop-state.state q.outside_count (omega arith) c.loop-state.invariant.0 in
     (omega arith, puts_as (sym b.0) (puts_more c.loop-state.invariant.1 c.put_state.ensures))
-
-pub returns : goal.returns
-returns c =
-    let q = c.args.query.now.table in
-    let z : c.loop-state.state ≡ 0 = omega arith in
-    let n : q.outside_count + 1 - 0 ≡ q.outside_count + 1 = omega arith in
-    puts_as (ap (λ i. rules_codes (sends q i (q.outside_count + 1 - i))) z ∙ ap (λ x. rules_codes (sends q 0 x)) n) c.loop-state.invariant.1

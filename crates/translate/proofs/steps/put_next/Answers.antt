@@ -3,12 +3,6 @@ use Rattle.translation.proofs.Parts.{next_is, next_long, next_good}
 use Rattle.translate.proofs.Writing.{puts_as, puts_more}
 use Rattle.translate.proofs.steps.put_next.Goals as goal
 
-pub put-requires : goal.put-requires
-put-requires c =
-    let l = next_long c.args.query.now.table c.args.next c.in-Some.index c.in-Some.is in
-    let r = c.requires.room in
-    omega arith
-
 pub put_asks-requires : goal.put_asks-requires
 put_asks-requires c =
     let l = next_long c.args.query.now.table c.args.next c.in-Some.index c.in-Some.is in

@@ -38,13 +38,6 @@ returns-in-Text c = puts_as (text_is c.args.rows.now.names.now (text_in c.args.r
 pub returns-in-Node : goal.returns-in-Node
 returns-in-Node c = puts_as (node_is c.args.rows.now.names.now (text_in c.args.rows.now.query.now) c.args.test c.in-Node.is) c.put-in-Node.ensures
 
-pub part-requires : goal.part-requires
-part-requires c =
-    let q = c.args.rows.now.query.now in
-    let g = name_good c.args.rows.now.names.now (text_in q) c.args.test c.in-Name.from c.in-Name.len c.in-Name.is c.requires.good in
-    let l = length-take q.len q.text in
-    omega arith
-
 pub returns-in-Name : goal.returns-in-Name
 returns-in-Name c =
     let q = c.args.rows.now.query.now in

@@ -101,12 +101,6 @@ conjunction-returns t c =
     let k = c.loop-self-test.ensures in
     subst (λ r. ConjTells l (Ok c.loop-self.left) e (with p r)) (sym k.0) (y.0, y.1, k.1, y.2)
 
-pub enclosed-returns-in_err-inner : goal.enclosed-returns-in_err-inner
-enclosed-returns-in_err-inner t c =
-    let b = err_from_is_err_and c.from_residual.result c.from_residual.ensures.1 in
-    exit (λ r. EnclosedTells c.args.levels c.args.at c.args.shut r c.args.self.now c.predicate.new.self) c.from_residual.result c.in_err-inner.field-0.0 b b.2
-    (enclosed_err c.args.levels c.args.at c.args.shut c.args.self.now c.predicate.new.self c.if-levels-eq0.false c.in_err-inner.field-0.0 c.in_err-inner.ensures)
-
 pub enclosed-returns-in-Some : goal.enclosed-returns-in-Some
 enclosed-returns-in-Some t c = enclosed_ok c.args.levels c.args.at c.args.shut c.args.self.now c.predicate.new.self c.if-levels-eq0.false c.in_ok-inner.inner c.in-Some.field-0 c.accept.new.self c.in_ok-inner.ensures c.in-Some.ensures
 
