@@ -67,8 +67,12 @@ impl<'a, T: Tree> Tree for Excerpt<'a, T> {
         Some(w - self.node)
     }
 
+    // the root's is the count, which is not asked twice
     fn size(&self, v: usize) -> usize {
-        if v < self.count() {
+        let count = self.count();
+        if v == 0 {
+            count
+        } else if v < count {
             self.tree.size(self.node + v)
         } else {
             0

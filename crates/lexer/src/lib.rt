@@ -44,14 +44,24 @@ fn is_named(b: u8) -> bool
     is_begin(b) || b.is_ascii_digit() || b == b'-' || b == b'.'
 }
 
-// Where the bytes from `from` on that pass a test end.
+// The bytes from a place on; none are past the end.
+fn rest_from(text: &[u8], from: usize) -> &[u8]
+    ensures { result.now ≡ drop from text.now }
+{
+    text.get(from..).unwrap_or(&[])
+}
+
+// Where the bytes from `from` on that pass a test end: no `skip`, which goes over the bytes before `from` one by one.
 fn past<F: Fn(u8) -> bool>(text: &[u8], from: usize, test: F) -> usize
     requires { F.IsAlwaysCallable test }
     ensures is { (p : ℕ → Bool) → Tests p (F.post test) → result ≡ from + prefix_len p (drop from text.now) }
     ensures on { from ≤ result }
     ensures within { from ≤ length text.now → result ≤ length text.now }
 {
-    from + text.iter().skip(from).take_while(|b| test(**b)).count()
+    from + rest_from(text, from)
+        .iter()
+        .take_while(|b| test(**b))
+        .count()
 }
 
 // Whether `b` stands at `at`. Here and below, the text and a place, and no reader: a look ahead has borrowed the place of that.
@@ -59,6 +69,13 @@ fn stands(text: &[u8], at: usize, b: u8) -> bool
     ensures { result ≡ first_is b (drop at text.now) }
 {
     text.get(at) == Some(&b)
+}
+
+// Whether a name is the word.
+pub fn same_bytes(name: &[u8], word: &[u8]) -> bool
+    ensures { result ≡ same name.now word.now }
+{
+    name == word
 }
 
 // The name that begins at `at`. That a token ends in the text is said here and by the next two: a Reach has no text of its own.
@@ -207,7 +224,7 @@ impl<'a> Reader<'a> {
                     end,
                     ..
                 },
-            ) if bytes == want => {
+            ) if same_bytes(bytes, want) => {
                 self.place = end;
                 true
             }

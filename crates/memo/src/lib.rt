@@ -2,14 +2,13 @@
 #![tactic(auto)]
 
 ghost use Rattle.std.specs.Prelude.{◌≡◌, ℕ, ◌<◌, List, replicate, Some, None, Decides, slice_index_or, slice_set};
-ghost use Rattle.std.proofs.Common.{rules};
 ghost use Rattle.memo.specs.Places.{Finds, Recalls};
 ghost use Rattle.memo.specs.Spread.{spread as spread_of};
 
 use std::marker::Model;
 
 // What an answer is kept under.
-pub trait Key: Copy + Drop + Eq {
+pub trait Key: Copy + Drop {
     // the place of a key's answer
     ghost place: { Self → ℕ };
 
@@ -17,8 +16,9 @@ pub trait Key: Copy + Drop + Eq {
         ensures exact { result ≡ place self }
         ensures within { result < 16 };
 
-    // keys are equal exactly where they are the same
-    ghost same: { (a b : Self) → Decides (Self.eq a b) (a ≡ b) };
+    // whether two keys are one: a key need not be Eq
+    fn same(self, other: Self) -> bool
+        ensures { Decides result (self ≡ other) };
 }
 
 // Spreads words over the sixteen places.
@@ -32,10 +32,12 @@ pub fn spread(word: u64) -> usize
 impl Key for u64 {
     ghost place = { spread_of };
 
-    ghost same = { Prim.search rules };
-
     fn place(self) -> usize {
         spread(self)
+    }
+
+    fn same(self, other: u64) -> bool {
+        self == other
     }
 }
 
@@ -64,7 +66,7 @@ impl<K: Key, V: Copy + Drop> Memo<K, V> {
     {
         let kept = self.places[key.place()];
         match kept {
-            Some(known) if known.key == key => Some(known.value),
+            Some(known) if key.same(known.key) => Some(known.value),
             _ => None,
         }
     }
