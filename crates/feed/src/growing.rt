@@ -57,7 +57,8 @@ impl Growing {
         if self.nodes >= MOST_NODES {
             return Err(Fault::Full);
         }
-        if (self.written + self.due + 2).div_ceil(8) > bits.len() || self.nodes >= labels.len() {
+        // two more, rounded up; no `div_ceil`, which looks at the remainder too
+        if (self.written + self.due + 9) / 8 > bits.len() || self.nodes >= labels.len() {
             return Err(Fault::Memory);
         }
         Ok(())
@@ -103,7 +104,8 @@ impl Growing {
     fn may_shut(&self, bits: &[u8]) -> Result<(), Fault>
         ensures { result ≡ shut_check (fed self.now bits.now []) }
     {
-        if (self.written + self.due).div_ceil(8) > bits.len() {
+        // rounded up; no `div_ceil`, which looks at the remainder too
+        if (self.written + self.due + 7) / 8 > bits.len() {
             return Err(Fault::Memory);
         }
         if self.due < 2 {

@@ -1,13 +1,15 @@
 -- One command of a file read.
-use Rattle.std.proofs.Common.{◌≡◌, ℕ, zero, suc, ◌-◌, List, [], ◌∷◌, length, drop, Some, Ok, Result, sym, refl, ap, ◌∙◌}
+use Rattle.std.proofs.Common.{◌≡◌, ℕ, zero, suc, ◌-◌, List, [], ◌∷◌, length, drop, Some, Ok, Err, Result, sym, refl, ap, ◌∙◌}
 use Rattle.growth.specs.declared.command.Command.{Command}
+use Rattle.growth.specs.declared.command.Command.TheVariants.{Open, Shut, Text, Name}
 use Rattle.growth.specs.declared.fault.Fault.{Fault}
 use Rattle.growth.specs.Steps.{Fed, after}
 use Rattle.growth.specs.Commands.{step_check, stepped, store_after}
 use Rattle.feedfile.specs.declared.command.FileCommand.{FileCommand}
 use Rattle.feedfile.specs.declared.command.FileCommand.TheVariants.{Feed}
+use Rattle.feedfile.specs.declared.command.FileFault.TheVariants.{Refused}
 use Rattle.feedfile.specs.Bytes.{taken, width}
-use Rattle.feedfile.specs.Reading.{reading, next, granted}
+use Rattle.feedfile.specs.Reading.{told, reading, next, granted}
 use Rattle.feedfile.proofs.Takes.{Splits, splits}
 
 -- the operands passed over
@@ -23,6 +25,23 @@ step n bs rest c f ss t s =
     ap (λ (l : List ℕ). reading n 0 l f ss) s.whole
     ∙ ap (next (λ (k : ℕ) (g : Fed) (us : List (List ℕ)). reading n k s.others g us) (n - length (s.op ∷ s.others)) f ss) s.command
     ∙ ap (λ (l : List ℕ). next (λ (k : ℕ) (g : Fed) (us : List (List ℕ)). reading n k s.others g us) (n - length l) f ss (Some c)) (sym s.whole)
+
+store_kept : (e : Fault) (k : ℕ) (ss : List (List ℕ)) (c : Command) → store_after (Err e) k ss c ≡ ss
+store_kept e k ss (Open x) = refl
+store_kept e k ss Shut = refl
+store_kept e k ss Text = refl
+store_kept e k ss (Name s) = refl
+
+pub refuse : (n : ℕ) (bs rest : List ℕ) (f g : Fed) (ss us : List (List ℕ)) (c : Command) (e : Fault) → taken bs ≡ Some (Feed c, rest) → Err e ≡ step_check f ss c →
+    g ≡ after (step_check f ss c) f (stepped f c) → us ≡ store_after (step_check f ss c) f.names ss c →
+    told (Err (Refused e (n - length bs))) g us ≡ reading n 0 bs f ss
+refuse n bs rest f g ss us c e t a l s =
+    let x : g ≡ f = l ∙ sym (ap (λ (r : Result (Unit {0}) Fault). after r f (stepped f c)) a) in
+    let y : us ≡ ss = s ∙ sym (ap (λ (r : Result (Unit {0}) Fault). store_after r f.names ss c) a) ∙ store_kept e f.names ss c in
+    let w = splits bs rest (Feed c) t in
+    ap (λ (h : Fed). told (Err (Refused e (n - length bs))) h us) x ∙ ap (told (Err (Refused e (n - length bs))) f) y
+    ∙ ap (granted (λ (k : ℕ) (h : Fed) (qs : List (List ℕ)). reading n k w.others h qs) (n - length bs) f ss c) a
+    ∙ sym (step n bs rest (Feed c) f ss t w)
 
 pub go_on : (n : ℕ) (bs rest : List ℕ) (f g : Fed) (ss us : List (List ℕ)) (c : Command) → taken bs ≡ Some (Feed c, rest) → Ok tt ≡ step_check f ss c →
     g ≡ after (step_check f ss c) f (stepped f c) → us ≡ store_after (step_check f ss c) f.names ss c →

@@ -28,7 +28,10 @@ fn grow(
     let mut rest = file;
     loop {
         let place = file.len() - rest.len();
-        let (item, after) = take_command(rest).ok_or(FileFault::Unknown { place })?;
+        // no `ok_or`, which moves each command twice more
+        let Some((item, after)) = take_command(rest) else {
+            return Err(FileFault::Unknown { place });
+        };
         let FileCommand::Feed(command) = item else {
             return Ok(place);
         };
