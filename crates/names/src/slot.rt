@@ -26,8 +26,7 @@ pub fn goes_on(b: u8) -> bool
 fn goes_on_all(bytes: &[u8]) -> bool
     ensures { result ≡ goes_on_all bytes.now }
 {
-    let name = bytes.iter().take_while(|b| goes_on(**b)).count();
-    bytes[name..].iter().all(|b| *b == 0)
+    bytes.iter().skip_while(|b| goes_on(**b)).all(|b| *b == 0)
 }
 
 // Whether a slot holds a name. Its contract also has what the test means: a slot that passes is a name and then 00h bytes.
